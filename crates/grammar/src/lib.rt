@@ -1,0 +1,8 @@
+// The grammar of a sheet.
+ghost use Rattle.grammar.specs.Laws.{Unambiguous};
+
+// A list of tokens is one sheet at most.
+pub fn unambiguous()
+    ensures { λ _. ⌜ Unambiguous ⌝ }
+{
+}
