@@ -36,6 +36,16 @@ signs-text words numbers signs = three-text (codes "words ") words (codes " numb
 abbrev pub fault-text : Fault → List ℕ
 fault-text f = three-text (codes "fault ") (layer (f .refusal)) (codes " ") (number (f .refusal)) (codes " ") (f .place)
 
+-- what follows a number of a mark: `/` and the next number, or the end of the line
+abbrev pub further : List ℕ → List ℕ
+further [] = line-feed
+further (n ∷ ns) = labelled (codes "/") n ++ further ns
+
+-- `N/N/N`: the numbers of a mark; a mark of no numbers is an empty line
+abbrev pub mark-text : List ℕ → List ℕ
+mark-text [] = line-feed
+mark-text (n ∷ ns) = decimal n ++ further ns
+
 -- what a call that makes these bytes answers and leaves: their number, with the bytes in front and the rest of the
 -- buffer as found; or refusal 19, for a buffer that is too short, which is as found
 abbrev pub Made : List ℕ → List ℕ → List ℕ → Result ℕ Refusal → Type 0

@@ -13,7 +13,14 @@ pub(crate) struct Labelled<'a> {
     pub(crate) number: u64,
 }
 
-impl Labelled<'_> {
+impl<'a> Labelled<'a> {
+    pub(crate) fn new(label: &'a [u8], number: u64) -> Labelled<'a>
+        ensures label { λ r. ⌜ now (r .label) ≡ now (label .entry) ⌝ }
+        ensures number { λ r. ⌜ r .number ≡ number ⌝ }
+    {
+        Labelled { label, number }
+    }
+
     fn width(self) -> usize
         requires { ⌜ length (now (self .label)) ≤ 16 ⌝ }
         ensures len { λ r. ⌜ r ≡ length (labelled (now (self .entry .label)) (self .entry .number)) ⌝ }
@@ -22,12 +29,12 @@ impl Labelled<'_> {
         self.label.len() + put::width(self.number)
     }
 
-    fn put(self, out: &mut [u8], at: usize) -> usize
+    pub(crate) fn put(self, out: &mut [u8], at: usize) -> usize
         requires { ⌜ at + length (labelled (now (self .label)) (self .number)) ≤ length (now out) ⌝ }
         ensures { λ r. ⌜ Put (now (out .entry)) at (labelled (now (self .entry .label)) (self .entry .number)) (now (out .exit)) r ⌝ }
     {
-        let to = put::put_bytes(out, at, self.label);
-        put::put_number(out, to, self.number)
+        let to = put::bytes(out, at, self.label);
+        put::number(out, to, self.number)
     }
 }
 
@@ -48,5 +55,5 @@ pub(crate) fn line_of_three(
     let to = first.put(out, 0);
     let to = second.put(out, to);
     let to = third.put(out, to);
-    Ok(put::put_byte(out, to, b'\n'))
+    Ok(put::byte(out, to, b'\n'))
 }

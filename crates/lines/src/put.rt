@@ -7,11 +7,11 @@ ghost use Rattle.std.specs.Written.{decimal};
 ghost use Rattle.lines.specs.Putting.{Put};
 
 // How many digits a number has.
-pub(crate) fn width(number: u64) -> usize
-    ensures len { λ r. ⌜ r ≡ length (decimal number) ⌝ }
+pub(crate) fn width(value: u64) -> usize
+    ensures len { λ r. ⌜ r ≡ length (decimal value) ⌝ }
     ensures few { λ r. ⌜ r ≤ 20 ⌝ }
 {
-    let mut front = number;
+    let mut front = value;
     let mut digits = 1;
     while front >= 10 {
         front /= 10;
@@ -20,31 +20,31 @@ pub(crate) fn width(number: u64) -> usize
     digits
 }
 
-pub(crate) fn put_byte(out: &mut [u8], at: usize, byte: u8) -> usize
+pub(crate) fn byte(out: &mut [u8], at: usize, code: u8) -> usize
     requires { ⌜ at < length (now out) ⌝ }
-    ensures { λ r. ⌜ Put (now (out .entry)) at (byte ∷ []) (now (out .exit)) r ⌝ }
+    ensures { λ r. ⌜ Put (now (out .entry)) at (code ∷ []) (now (out .exit)) r ⌝ }
 {
-    out[at] = byte;
+    out[at] = code;
     at + 1
 }
 
-pub(crate) fn put_bytes(out: &mut [u8], at: usize, bytes: &[u8]) -> usize
-    requires { ⌜ at + length (now bytes) ≤ length (now out) ⌝ }
-    ensures { λ r. ⌜ Put (now (out .entry)) at (now (bytes .entry)) (now (out .exit)) r ⌝ }
+pub(crate) fn bytes(out: &mut [u8], at: usize, codes: &[u8]) -> usize
+    requires { ⌜ at + length (now codes) ≤ length (now out) ⌝ }
+    ensures { λ r. ⌜ Put (now (out .entry)) at (now (codes .entry)) (now (out .exit)) r ⌝ }
 {
-    let to = at + bytes.len();
-    out[at..to].copy_from_slice(bytes);
+    let to = at + codes.len();
+    out[at..to].copy_from_slice(codes);
     to
 }
 
 // The digits of a number, its front first.
-pub(crate) fn put_number(out: &mut [u8], at: usize, number: u64) -> usize
-    requires { ⌜ at + length (decimal number) ≤ length (now out) ⌝ }
-    ensures { λ r. ⌜ Put (now (out .entry)) at (decimal number) (now (out .exit)) r ⌝ }
+pub(crate) fn number(out: &mut [u8], at: usize, value: u64) -> usize
+    requires { ⌜ at + length (decimal value) ≤ length (now out) ⌝ }
+    ensures { λ r. ⌜ Put (now (out .entry)) at (decimal value) (now (out .exit)) r ⌝ }
 {
-    if number < 10 {
-        return put_byte(out, at, b'0' + number as u8);
+    if value < 10 {
+        return byte(out, at, b'0' + value as u8);
     }
-    let last = put_number(out, at, number / 10);
-    put_byte(out, last, b'0' + (number % 10) as u8)
+    let last = number(out, at, value / 10);
+    byte(out, last, b'0' + (value % 10) as u8)
 }

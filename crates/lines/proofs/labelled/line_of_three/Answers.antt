@@ -19,5 +19,5 @@ returns c =
     let d = c .args .third in
     let whole = length-three-text (a .label .now) (b .label .now) (d .label .now) (a .number) (b .number) (d .number) in
     made-by-put
-    (put-put (c .put-to .ensures) (put-put (c .put-to-2 .ensures) (put-put (c .put-to-3 .ensures) (c .put-byte .ensures))))
+    (put-put (c .put-to .ensures) (put-put (c .put-to-2 .ensures) (put-put (c .put-to-3 .ensures) (c .byte .ensures))))
     (omega (arith, whole, c .width .ensures .len, c .width-2 .ensures .len, c .width-3 .ensures .len))

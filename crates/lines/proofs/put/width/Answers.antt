@@ -6,7 +6,7 @@ use Rattle.lines.proofs.put.width.Needs as need
 
 pub add-digits : need.add-digits
 add-digits c =
-    omega (arith, length-decimal-le 20 (c .args .number) (omega arith) (omega arith) (omega arith), c .loop-front .inv .0)
+    omega (arith, length-decimal-le 20 (c .args .value) (omega arith) (omega arith) (omega arith), c .loop-front .inv .0)
 
 pub loop-front-again : need.loop-front-again
 loop-front-again c =
@@ -16,5 +16,5 @@ loop-front-again c =
 pub returns : need.returns
 returns c =
     let one = length-decimal-digit (c .loop-front .front) (omega arith) in
-    let few = length-decimal-le 20 (c .args .number) (omega arith) (omega arith) (omega arith) in
+    let few = length-decimal-le 20 (c .args .value) (omega arith) (omega arith) (omega arith) in
     record { len = omega (arith, c .loop-front .inv .0); few = omega (arith, c .loop-front .inv .0) }

@@ -4,13 +4,13 @@ use Rattle.std.specs.Written.{decimal}
 use Rattle.lines.proofs.Putting.{put-put}
 use Rattle.lines.proofs.labelled.Labelled.put.Needs as need
 
-pub put-bytes-to-requires : need.put-bytes-to-requires
-put-bytes-to-requires c κs =
+pub bytes-to-requires : need.bytes-to-requires
+bytes-to-requires c κs =
     omega (arith, c .pre, length-append (c .args .self .label .now) (decimal (c .args .self .number)))
 
-pub put-number-requires : need.put-number-requires
-put-number-requires c κs =
-    omega (arith, c .pre, c .put-bytes-to .ensures .size, length-append (c .args .self .label .now) (decimal (c .args .self .number)))
+pub number-requires : need.number-requires
+number-requires c κs =
+    omega (arith, c .pre, c .bytes-to .ensures .size, length-append (c .args .self .label .now) (decimal (c .args .self .number)))
 
 pub returns : need.returns
-returns c = put-put (c .put-bytes-to .ensures) (c .put-number .ensures)
+returns c = put-put (c .bytes-to .ensures) (c .number .ensures)
