@@ -1,16 +1,16 @@
 -- A mark's line, number by number, and its length.
 use Prim.Native.Nat.{ℕ, _+_, _-_, _≤_, _<_}
 use mathlib.Core.List.{List, [], _∷_, _++_}
-use mathlib.Core.Path.{_≡_, ap, sym}
+use mathlib.Core.Path.{_≡_, ap, sym, _∙_}
 use native.Mathlib.Omega.{arith}
 use lib.Chars.{codes}
 use lib.Dec.{ltb}
 use lib.ListN.{length, getD, take, drop, length-append}
 use Rattle.std.proofs.shelf.Lists.{drop-all, drop-more, take-rest}
 use Rattle.std.proofs.shelf.Ways.{tells}
-use Rattle.std.specs.Orderings.{When}
 use Rattle.std.specs.Written.{decimal}
 use Rattle.lines.specs.Lines.{labelled, line-feed, further, mark-text}
+use Rattle.lines.specs.Putting.{HasRoom}
 
 pub further-more :
     (ns : List ℕ) (i : ℕ)
@@ -27,6 +27,15 @@ pub mark-text-first :
     → mark-text mark ≡ decimal (getD mark 0 0) ++ further (take (length mark - 1) (drop 1 mark))
 mark-text-first [] some = absurd (omega arith)
 mark-text-first (n ∷ ns) some = ap (λ l. decimal n ++ further l) (sym (take-rest (n ∷ ns) 1))
+
+pub length-mark-text-first :
+    (mark : List ℕ)
+    → 0 < length mark
+    → length (mark-text mark)
+    ≡ length (decimal (getD mark 0 0)) + length (further (take (length mark - 1) (drop 1 mark)))
+length-mark-text-first mark some =
+    ap length (mark-text-first mark some)
+    ∙ length-append (decimal (getD mark 0 0)) (further (take (length mark - 1) (drop 1 mark)))
 
 -- the bytes of the numbers, each with the one that follows it
 abbrev pub spread : List ℕ → ℕ
@@ -51,7 +60,7 @@ length-mark-text (n ∷ ns) some = omega (arith, length-append (decimal n) (furt
 pub room-enough :
     (mark : List ℕ) (room : ℕ)
     → spread mark ≤ room
-    → When (ltb 0 room) (length (mark-text mark) ≤ room) (room < length (mark-text mark))
+    → HasRoom (mark-text mark) room (ltb 0 room)
 room-enough [] room enough = grind (arith, tells)
 room-enough (n ∷ ns) room enough =
     let whole = length-mark-text (n ∷ ns) (omega arith) in

@@ -9,8 +9,9 @@ use Rattle.std.proofs.shelf.Decimals.{decimal-digit, decimal-step}
 use Rattle.std.proofs.shelf.Lists.{length-push}
 use Rattle.std.specs.Written.{decimal}
 use Rattle.std.specs.declared.result.Result.the-variants.{Ok}
-use Rattle.lines.specs.Lines.{Made, labelled, three-text}
-use Rattle.lines.specs.Putting.{Put}
+use Rattle.lines.specs.Lines.{Made}
+use Rattle.lines.specs.Putting.{Put, line-of, text-of}
+use Rattle.lines.specs.declared.labelled.Labelled.{Labelled}
 
 pub length-decimal-digit : (n : ℕ) → n < 10 → length (decimal n) ≡ 1
 length-decimal-digit n h = ap length (decimal-digit n h)
@@ -48,8 +49,7 @@ made-by-put {before} {bytes} {after} {n} p fits = (
   sym (take-append-drop n after) ∙ (λ j. p .front j ++ p .past j),
 )
 
-pub length-three-text :
-    (first second third : List ℕ) (m n o : ℕ)
-    → length (three-text first m second n third o)
-    ≡ length (labelled first m) + length (labelled second n) + length (labelled third o) + 1
-length-three-text first second third m n o = simp length-append (omega arith)
+pub length-line-of :
+    (p q r : Labelled)
+    → length (line-of p q r) ≡ length (text-of p) + length (text-of q) + length (text-of r) + 1
+length-line-of p q r = simp length-append (omega arith)

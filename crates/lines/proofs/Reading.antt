@@ -65,7 +65,8 @@ further-back :
     → numbers-of (decimal n ++ further ns) ≡ n ∷ ns
 further-back n [] small all = run-decimal n 10 [] small refl
 further-back n (k ∷ ks) small all =
-    run-decimal n 47 (decimal k ++ further ks) small refl ∙ ap (λ l. n ∷ l) (further-back k ks (all .0) (all .1))
+    run-decimal n 47 (decimal k ++ further ks) small refl
+    ∙ ap (λ l. n ∷ l) (further-back k ks (all .0) (all .1))
 
 pub read-back : Read-back
 read-back [] all = refl

@@ -11,11 +11,13 @@ use Rattle.std.specs.declared.option.Option.the-variants.{None, Some}
 use Rattle.std.specs.shelf.Lists.{All}
 use Rattle.lines.specs.Lines.{mark-text}
 
--- the numbers that stand in the bytes, after digits just before them that came to a number, or after none
+-- the numbers that stand in the bytes; `begun` is what the digits just before them have come to, if there are any
 abbrev pub numbers-on : Option ℕ → List ℕ → List ℕ
 numbers-on begun [] = listOf begun
 numbers-on begun (b ∷ bs) =
-    cond (asciiDigit b) (numbers-on (Some (10 * valueOr begun 0 + (b - 48))) bs) (listOf begun ++ numbers-on None bs)
+    cond (asciiDigit b)
+    (numbers-on (Some (10 * valueOr begun 0 + (b - 48))) bs)
+    (listOf begun ++ numbers-on None bs)
 
 -- the numbers that stand in a line: the values of its unbroken runs of digits, in their order
 abbrev pub numbers-of : List ℕ → List ℕ

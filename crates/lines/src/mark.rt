@@ -1,18 +1,17 @@
 // The line of a mark: its numbers, parted by `/`.
-ghost use Prim.Native.Nat.{_≤_, _<_, _+_};
+ghost use Prim.Native.Nat.{_+_, _≤_};
 ghost use mathlib.Core.Path.{_≡_};
 ghost use lib.ListN.{length, take};
-ghost use Rattle.std.specs.Orderings.{When};
 ghost use Rattle.std.specs.declared.result.Result.the-variants.{Ok};
 ghost use Rattle.lines.specs.Lines.{Made, further, mark-text};
-ghost use Rattle.lines.specs.Putting.{Put};
+ghost use Rattle.lines.specs.Putting.{HasRoom, Put};
 ghost use Rattle.lines.specs.Reading.{numbers-of};
 use crate::labelled::Labelled;
 use crate::put;
 
-// Whether the line has room. It counts down from the room, since a line may be longer than a number of bytes can say.
+// Whether the line has room. The room is counted down, since the length of the line may pass a `usize`.
 pub(crate) fn fits(mark: &[u16], room: usize) -> bool
-    ensures { λ r. ⌜ When r (length (mark-text (now (mark .entry))) ≤ room) (room < length (mark-text (now (mark .entry)))) ⌝ }
+    ensures { λ r. ⌜ HasRoom (mark-text (now (mark .entry))) room r ⌝ }
 {
     let mut left = room;
     for number in mark {

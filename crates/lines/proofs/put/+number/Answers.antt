@@ -1,7 +1,5 @@
-use mathlib.Core.Path.{sym, subst}
 use native.Mathlib.Omega.{arith}
 use Rattle.std.proofs.shelf.Decimals.{decimal-digit, decimal-step}
-use Rattle.lines.specs.Putting.{Put}
 use Rattle.lines.proofs.Putting.{length-decimal-digit, length-decimal-step, put-put}
 use Rattle.lines.proofs.put.+number.Needs as need
 
@@ -17,7 +15,8 @@ number-last-requires t c κs =
 
 pub byte-requires-2 : need.byte-requires-2
 byte-requires-2 t c κs =
-    omega (arith, length-decimal-step (c .args .value) (omega arith) (omega arith), c .pre, c .number-last .ensures .size)
+    let step = length-decimal-step (c .args .value) (omega arith) (omega arith) in
+    omega (arith, c .pre, c .number-last .ensures .size)
 
 pub returns : need.returns
 returns t c =

@@ -5,4 +5,11 @@ use Rattle.std.proofs.shelf.Lists.{take-more-set}
 use Rattle.lines.proofs.put.byte.Needs as need
 
 pub returns : need.returns
-returns c = record { size = refl; front = take-more-set (c .args .out .now) (c .args .at) (c .args .code) (omega arith); past = drop-set-lt _ (c .args .out .now) (c .args .at) (c .args .code) (omega arith) }
+returns c =
+    let out = c .args .out .now in
+    let at = c .args .at in
+    record {
+      size = refl;
+      front = take-more-set out at (c .args .code) (omega arith);
+      past = drop-set-lt _ out at (c .args .code) (omega arith);
+    }

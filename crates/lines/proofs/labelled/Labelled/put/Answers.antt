@@ -6,11 +6,13 @@ use Rattle.lines.proofs.labelled.Labelled.put.Needs as need
 
 pub bytes-to-requires : need.bytes-to-requires
 bytes-to-requires c κs =
-    omega (arith, c .pre, length-append (c .args .self .label .now) (decimal (c .args .self .number)))
+    let whole = length-append (c .args .self .label .now) (decimal (c .args .self .number)) in
+    omega (arith, c .pre)
 
 pub number-requires : need.number-requires
 number-requires c κs =
-    omega (arith, c .pre, c .bytes-to .ensures .size, length-append (c .args .self .label .now) (decimal (c .args .self .number)))
+    let whole = length-append (c .args .self .label .now) (decimal (c .args .self .number)) in
+    omega (arith, c .pre, c .bytes-to .ensures .size)
 
 pub returns : need.returns
 returns c = put-put (c .bytes-to .ensures) (c .number .ensures)
