@@ -11,7 +11,7 @@ use Rattle.std.specs.declared.option.Option.the-variants.{None, Some}
 use Rattle.std.specs.shelf.Lists.{All}
 use Rattle.lines.specs.Lines.{mark-text}
 
--- the numbers that stand in the bytes; `begun` is what the digits just before them have come to, if there are any
+-- the numbers that stand in the bytes; `begun` is what the digits just before them come to, if there are any
 abbrev pub numbers-on : Option ℕ → List ℕ → List ℕ
 numbers-on begun [] = listOf begun
 numbers-on begun (b ∷ bs) =
