@@ -121,7 +121,7 @@ line-between before after place there =
           right n (omega arith) ∙ ap (λ i. getD after i 0) here ∙ outside-line _ (leading-stops p after inside);
     }
 
-line-at : (text : List ℕ) (place : ℕ) → LineAt text place (line-start text place) (line-end text place)
+pub line-at : (text : List ℕ) (place : ℕ) → LineAt text place (line-start text place) (line-end text place)
 line-at text place =
     let whole = take-append-drop place text in
     let there : min place (length (take place text ++ drop place text)) ≡ length (take place text) =

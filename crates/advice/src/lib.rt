@@ -1,6 +1,7 @@
 // What is printed for a person below a fault: its line and column, that line of the text, a mark under the
 // place, and advice. Each line is made in a buffer of the caller's.
 ghost use Rattle.lines.specs.Lines.{Made};
+ghost use Rattle.advice.specs.Laws.{OnePlace, StandsUnder};
 ghost use Rattle.advice.specs.Message.{advice-text, marker-text, position-text, shown-text};
 ghost use Rattle.advice.specs.Places.{OneLine};
 use refusal::Refusal;
@@ -10,9 +11,10 @@ mod place;
 mod put;
 mod sentence;
 
-// `line N, column N`: where the place stands, counted from 1.
+// `line N, column N`: where the place stands, counted from 1. No other place of the text has both.
 pub fn position_line(text: &[u8], place: usize, out: &mut [u8]) -> Result<usize, Refusal>
-    ensures { λ r. ⌜ Made (position-text (now (text .entry)) place) (now (out .entry)) (now (out .exit)) r ⌝ }
+    ensures made { λ r. ⌜ Made (position-text (now (text .entry)) place) (now (out .entry)) (now (out .exit)) r ⌝ }
+    ensures one_place { λ _. ⌜ OnePlace (now (text .entry)) place ⌝ }
 {
     message::position(
         place::line_number(text, place),
@@ -29,9 +31,10 @@ pub fn shown_line(text: &[u8], place: usize, out: &mut [u8]) -> Result<usize, Re
     message::shown(place::line(text, place), out)
 }
 
-// A mark under the place.
+// A mark `^`, which stands under the place when printed below its line.
 pub fn marker_line(text: &[u8], place: usize, out: &mut [u8]) -> Result<usize, Refusal>
-    ensures { λ r. ⌜ Made (marker-text (now (text .entry)) place) (now (out .entry)) (now (out .exit)) r ⌝ }
+    ensures made { λ r. ⌜ Made (marker-text (now (text .entry)) place) (now (out .entry)) (now (out .exit)) r ⌝ }
+    ensures stands_under { λ _. ⌜ StandsUnder (now (text .entry)) place ⌝ }
 {
     message::marker(place::column(text, place), out)
 }

@@ -3,6 +3,7 @@ ghost use Prim.Native.Nat.{_≤_};
 ghost use mathlib.Core.Path.{_≡_};
 ghost use lib.ListN.{length, take};
 ghost use Rattle.std.specs.shelf.Lists.{countBy};
+ghost use Rattle.advice.specs.Laws.{OnePlace, StandsUnder};
 ghost use Rattle.advice.specs.Places.{OneLine, column, is-line-feed, line-end, line-number, line-of, line-start};
 
 // A place past the end of the text counts as its end.
@@ -57,7 +58,9 @@ fn line_end(text: &[u8], place: usize) -> usize
 }
 
 pub(crate) fn column(text: &[u8], place: usize) -> usize
-    ensures { λ r. ⌜ r ≡ column (now (text .entry)) place ⌝ }
+    ensures value { λ r. ⌜ r ≡ column (now (text .entry)) place ⌝ }
+    ensures one_place { λ _. ⌜ OnePlace (now (text .entry)) place ⌝ }
+    ensures stands_under { λ _. ⌜ StandsUnder (now (text .entry)) place ⌝ }
 {
     within(text, place) - line_start(text, place) + 1
 }
