@@ -43,5 +43,5 @@ pub fn marker_line(text: &[u8], place: usize, out: &mut [u8]) -> Result<usize, R
 pub fn advice_line(refusal: Refusal, out: &mut [u8]) -> Result<usize, Refusal>
     ensures { λ r. ⌜ Made (advice-text refusal) (now (out .entry)) (now (out .exit)) r ⌝ }
 {
-    message::whole(sentence::sentence(refusal), out)
+    message::whole(sentence::about(refusal), out)
 }

@@ -4,7 +4,7 @@ ghost use Rattle.advice.specs.Message.{advice-text};
 use refusal::Refusal;
 
 // The advice on a refusal, with the end of its line.
-pub(crate) fn sentence(refusal: Refusal) -> &'static [u8]
+pub(crate) fn about(refusal: Refusal) -> &'static [u8]
     ensures { λ r. ⌜ now r ≡ advice-text refusal ⌝ }
 {
     match refusal {

@@ -2,7 +2,7 @@ use mathlib.Core.Logic.{⊎-elim}
 use mathlib.Core.Path.{_≡_, ap, sym}
 use Rattle.refusal.specs.declared.Refusal.{Refusal}
 use Rattle.advice.specs.Message.{advice-text}
-use Rattle.advice.proofs.sentence.sentence.Needs as need
+use Rattle.advice.proofs.sentence.about.Needs as need
 
 said : {refusal case : Refusal} → refusal ≡ case → advice-text case ≡ advice-text refusal
 said is = sym (ap advice-text is)
