@@ -1,0 +1,4 @@
+pub mod Terms
+pub mod Reading
+pub mod ReadingLaws
+pub mod ReadingSamples
