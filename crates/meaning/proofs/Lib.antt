@@ -1,2 +1,9 @@
 pub mod Readings
 pub mod ReadSamples
+pub mod Basics
+pub mod Values
+pub mod Soundness
+pub mod Forks
+pub mod Parting
+pub mod Counting
+pub mod Completeness

@@ -2,6 +2,7 @@
 // Each function stands for a theorem, which its contract states.
 ghost use Rattle.meaning.specs.ReadingLaws.{Formulas-read, Calls-spend, Checkings};
 ghost use Rattle.meaning.specs.ReadingSamples.{Three-checked};
+ghost use Rattle.meaning.specs.MatchingLaws.{Matches-part, Matches-within, Matches-sound, Matches-complete, Matches-differ};
 
 // A formula reads in exactly one way.
 pub fn formulas_read_one_way()
@@ -22,3 +23,33 @@ pub fn checks_answer_once()
 pub fn three_is_checked()
     ensures { λ _. ⌜ Three-checked ⌝ }
 {}
+
+// Two matches from one state are the same, or their traces part at one choice.
+pub fn matches_part()
+    ensures { λ _. ⌜ Matches-part ⌝ }
+{
+}
+
+// Each pick of a match is below its width.
+pub fn match_picks_are_within()
+    ensures { λ _. ⌜ Matches-within ⌝ }
+{
+}
+
+// A mark that a live match leaves reads as the target.
+pub fn matches_are_sound()
+    ensures { λ _. ⌜ Matches-sound ⌝ }
+{
+}
+
+// A mark that reads as the target is left by a live match.
+pub fn matches_are_complete()
+    ensures { λ _. ⌜ Matches-complete ⌝ }
+{
+}
+
+// No two matches leave the same mark.
+pub fn matches_share_no_mark()
+    ensures { λ _. ⌜ Matches-differ ⌝ }
+{
+}
