@@ -7,3 +7,8 @@ pub mod Forks
 pub mod Parting
 pub mod Counting
 pub mod Completeness
+pub mod Comparisons
+pub mod Pending
+pub mod Runs
+pub mod Entries
+pub mod Lengths

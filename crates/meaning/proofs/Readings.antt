@@ -10,7 +10,7 @@ use borrow.Author.Tests.{clash}
 use Rattle.formula.specs.declared.Join.{Join}
 use Rattle.formula.specs.Trees.{Formula, compare, call, negate, pick, join, Rule, Sheet}
 use Rattle.meaning.specs.Terms.{ranges-of, rules-of, mark-line, body, value, wants}
-use Rattle.meaning.specs.Reading.{Answer, said, ran-out, left, turned, Reads, tells, called, uncalled, turns, picked, left-out, left-only, right-too, calls-made, ranged, Verdict, allowed, not-allowed, spent, verdict, Checks, out-of-range, in-range}
+use Rattle.meaning.specs.Reading.{Answer, said, ran-out, left, turned, Reads, tells, called, uncalled, turns, picked, left-out, left-only, right-too, calls-made, ranged, Verdict, allowed, not-allowed, spent, verdict, Checks, out-of-range, in-range, Allowed}
 use Rattle.meaning.specs.ReadingLaws.{Formulas-read, Calls-spend, Checking, Checkings}
 
 -- Answers
@@ -220,3 +220,25 @@ checkings =
       all-spent = λ m fuel c x. all-spent s m x refl;
       more = λ m fuel more v c h g x. (let e : (more - fuel) + fuel ≡ more = omega arith in subst (λ (n : ℕ). Checks s m n v c) e (checks-more s m (more - fuel) h x));
     }
+
+-- Allowed marks
+
+abbrev pub ReadsTrue : Sheet → ℕ → List ℕ → Type 0
+ReadsTrue s fuel m =
+    (ranged (ranges-of s) 0 m ≡ true) × ((k : ℕ) × Reads (rules-of s) m [] (mark-line s) fuel (said true k))
+
+module _ {s : Sheet} {fuel : ℕ} {m : List ℕ} where
+  pub reads-allowed : ReadsTrue s fuel m → Allowed s fuel m
+  reads-allowed x = (calls-made (x .1 .1), in-range (x .0) (x .1 .1))
+
+  pub allowed-reads : Allowed s fuel m → ReadsTrue s fuel m
+  allowed-reads x = go (x .1) refl
+    where
+      by-answer : (a : Answer) → Reads (rules-of s) m [] (mark-line s) fuel a → verdict a ≡ allowed → (k : ℕ) × Reads (rules-of s) m [] (mark-line s) fuel (said true k)
+      by-answer (said true k) r h = (k, r)
+      by-answer (said false k) r h = absurd (let z : _≡_ {A = ℕ} 0 1 = cc in omega arith)
+      by-answer ran-out r h = absurd (let z : _≡_ {A = ℕ} 0 1 = cc in omega arith)
+
+      go : {v : Verdict} {c : ℕ} → Checks s m fuel v c → v ≡ allowed → ReadsTrue s fuel m
+      go (out-of-range p) h = absurd (let z : _≡_ {A = ℕ} 0 1 = cc in omega arith)
+      go (in-range {a = a} p r) h = (p, by-answer a r h)

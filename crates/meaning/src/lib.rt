@@ -3,6 +3,9 @@
 ghost use Rattle.meaning.specs.ReadingLaws.{Formulas-read, Calls-spend, Checkings};
 ghost use Rattle.meaning.specs.ReadingSamples.{Three-checked};
 ghost use Rattle.meaning.specs.MatchingLaws.{Matches-part, Matches-within, Matches-sound, Matches-complete, Matches-differ};
+ghost use Rattle.meaning.specs.Comparisons.{Comparisons-keep};
+ghost use Rattle.meaning.specs.RunLaws.{Runs-lawful};
+ghost use Rattle.meaning.specs.Lengths.{Traces-short};
 
 // A formula reads in exactly one way.
 pub fn formulas_read_one_way()
@@ -51,5 +54,23 @@ pub fn matches_are_complete()
 // No two matches leave the same mark.
 pub fn matches_share_no_mark()
     ensures { λ _. ⌜ Matches-differ ⌝ }
+{
+}
+
+// A comparison keeps by its sign, mirrored when the field stands on the right.
+pub fn comparisons_keep_by_sign()
+    ensures { λ _. ⌜ Comparisons-keep ⌝ }
+{
+}
+
+// The marks of the runs are the allowed marks of the starting set, each by one trace.
+pub fn runs_are_lawful()
+    ensures { λ _. ⌜ Runs-lawful ⌝ }
+{
+}
+
+// A trace has one entry at most for each field and for each join that is matched.
+pub fn traces_are_short()
+    ensures { λ _. ⌜ Traces-short ⌝ }
 {
 }
