@@ -12,3 +12,8 @@ pub mod Pending
 pub mod Runs
 pub mod Entries
 pub mod Lengths
+pub mod Picks
+pub mod Walks
+pub mod Endings
+pub mod Listed
+pub mod Samples

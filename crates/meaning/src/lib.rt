@@ -6,6 +6,9 @@ ghost use Rattle.meaning.specs.MatchingLaws.{Matches-part, Matches-within, Mat
 ghost use Rattle.meaning.specs.Comparisons.{Comparisons-keep};
 ghost use Rattle.meaning.specs.RunLaws.{Runs-lawful};
 ghost use Rattle.meaning.specs.Lengths.{Traces-short};
+ghost use Rattle.meaning.specs.Picks.{Numbers-tell};
+ghost use Rattle.meaning.specs.WalkLaws.{Walks-exact, Walks-end};
+ghost use Rattle.meaning.specs.Samples.{Odd-walked};
 
 // A formula reads in exactly one way.
 pub fn formulas_read_one_way()
@@ -72,5 +75,29 @@ pub fn runs_are_lawful()
 // A trace has one entry at most for each field and for each join that is matched.
 pub fn traces_are_short()
     ensures { λ _. ⌜ Traces-short ⌝ }
+{
+}
+
+// Whatever the numbers, they tell exactly one run.
+pub fn numbers_tell_one_run()
+    ensures { λ _. ⌜ Numbers-tell ⌝ }
+{
+}
+
+// A whole walk issues each allowed mark of the starting set once, and nothing else.
+pub fn walks_are_exact()
+    ensures { λ _. ⌜ Walks-exact ⌝ }
+{
+}
+
+// There is exactly one whole walk, and it ends.
+pub fn walks_end()
+    ensures { λ _. ⌜ Walks-end ⌝ }
+{
+}
+
+// The worked walks hold.
+pub fn odd_numbers_are_walked()
+    ensures { λ _. ⌜ Odd-walked ⌝ }
 {
 }
