@@ -13,6 +13,7 @@ pub mod Runs
 pub mod Entries
 pub mod Lengths
 pub mod Picks
+pub mod Draws
 pub mod Walks
 pub mod Endings
 pub mod Listed

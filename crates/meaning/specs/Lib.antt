@@ -11,6 +11,7 @@ pub mod Runs
 pub mod RunLaws
 pub mod Lengths
 pub mod Picks
+pub mod Draws
 pub mod Walks
 pub mod WalkLaws
 pub mod Samples

@@ -7,6 +7,7 @@ ghost use Rattle.meaning.specs.Comparisons.{Comparisons-keep};
 ghost use Rattle.meaning.specs.RunLaws.{Runs-lawful};
 ghost use Rattle.meaning.specs.Lengths.{Traces-short};
 ghost use Rattle.meaning.specs.Picks.{Numbers-tell};
+ghost use Rattle.meaning.specs.Draws.{Draws-one};
 ghost use Rattle.meaning.specs.WalkLaws.{Walks-exact, Walks-end};
 ghost use Rattle.meaning.specs.Samples.{Odd-walked};
 
@@ -81,6 +82,12 @@ pub fn traces_are_short()
 // Whatever the numbers, they tell exactly one run.
 pub fn numbers_tell_one_run()
     ensures { λ _. ⌜ Numbers-tell ⌝ }
+{
+}
+
+// Whatever the numbers, there is exactly one draw from them.
+pub fn numbers_draw_once()
+    ensures { λ _. ⌜ Draws-one ⌝ }
 {
 }
 
