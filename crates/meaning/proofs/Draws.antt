@@ -19,7 +19,7 @@ use Rattle.meaning.specs.Draws.{drawn, Takes, takes-none, takes-one, Drawn, ra
 use Rattle.meaning.proofs.Runs.{run-part}
 use Rattle.meaning.proofs.Picks.{all-told}
 
-drawn-fair : Fair drawn
+pub drawn-fair : Fair drawn
 drawn-fair r (among c) h = mod-lt r h
 drawn-fair r (branch v w) h = go (ltb (r % (v + w)) v)
   where

@@ -1,5 +1,4 @@
 pub mod Readings
-pub mod ReadSamples
 pub mod Basics
 pub mod Values
 pub mod Soundness
@@ -17,4 +16,5 @@ pub mod Draws
 pub mod Walks
 pub mod Endings
 pub mod Listed
+pub mod Boxes
 pub mod Samples

@@ -1,7 +1,6 @@
 pub mod Terms
 pub mod Reading
 pub mod ReadingLaws
-pub mod ReadingSamples
 pub mod Traces
 pub mod Matching
 pub mod MatchingLaws
