@@ -1,0 +1,4 @@
+pub mod Search
+pub mod Faults
+pub mod Places
+pub mod Verdict
