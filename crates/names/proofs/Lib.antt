@@ -2,3 +2,4 @@ pub mod Search
 pub mod Faults
 pub mod Places
 pub mod Verdict
+pub mod Lookups
