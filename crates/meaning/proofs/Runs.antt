@@ -1,20 +1,22 @@
 -- The laws of whole runs.
 use Prim.Native.Nat.{ℕ, zero, suc, _<_}
 use native.Mathlib.Omega.{arith}
-use mathlib.Core.Path.{_≡_, refl, sym, ap, ap₂, subst, _∙_}
+use mathlib.Core.Path.{_≡_, refl, sym, ap, ap₂, subst, _∙_, fun-ext}
 use mathlib.Core.Logic.{_≢_, _⊎_, inl, inr}
-use mathlib.Core.Bool.{Bool, true, false, _&&_, Bool-discrete}
+use mathlib.Core.Bool.{Bool, true, false, _&&_, and-true, Bool-discrete}
 use mathlib.Core.List.{List, [], _∷_, _++_}
 use lib.ListN.{getD, length}
 use borrow.Author.Tests.{eq-eqb}
-use Rattle.formula.specs.Trees.{Formula, Rule, Sheet}
-use Rattle.marks.specs.Sets.{Marks, Empty, MarksOf}
+use Rattle.formula.specs.Trees.{Formula, Range, range, Rule, Sheet}
+use Rattle.formula.specs.declared.Comparison.the-variants.{AtMost, AtLeast}
+use Rattle.formula.specs.Comparing.{holds}
+use Rattle.marks.specs.Sets.{Marks, Empty, MarksOf, kept}
 use Rattle.meaning.specs.Terms.{rules-of, mark-line, ranges-of, fields-of}
-use Rattle.meaning.specs.Reading.{said, Reads, Allowed}
+use Rattle.meaning.specs.Reading.{said, Reads, ranged, Allowed}
 use Rattle.meaning.specs.Traces.{Trace, Within, none, Apart}
 use Rattle.meaning.specs.Matching.{Argument, the-field, Settles, known, chosen, State, live, dead, spent, Lives, some-left, none-left, Matches, stays-dead, stays-spent, compares, calls, calls-out, negates, picks, both-sides, left-side, right-side}
 use Rattle.meaning.specs.Runs.{Outcome, mark, dead-end, spent-run, Ends, ended, ends, Finishes, whole, at-dead, at-spent, inside, Run, runs}
-use Rattle.meaning.specs.RunLaws.{Runs-lawful}
+use Rattle.meaning.specs.RunLaws.{Runs-lawful, kept-ranges, Ranges-keep}
 use Rattle.meaning.proofs.Readings.{reads-allowed, allowed-reads}
 use Rattle.meaning.proofs.Basics.{and-left, and-right, and-both}
 use Rattle.meaning.proofs.Values.{in-getD}
@@ -199,3 +201,18 @@ run-laws =
       complete = run-complete sh fuel S B;
       differ = run-differ sh fuel S B;
     }
+
+-- keeping each range in turn
+
+kept-all : (rs : List Range) (f : ℕ) (S : Marks) → kept-ranges rs f S ≡ (λ m. S m && ranged rs f m)
+kept-all [] f S = fun-ext (λ m. sym (and-true (S m)))
+kept-all (range low high ∷ rs) f S =
+    kept-all rs (suc f) (kept (kept S f AtLeast low) f AtMost high)
+    ∙ fun-ext (λ m. regroup (S m) (holds AtLeast (getD m f 0) low) (holds AtMost (getD m f 0) high) (ranged rs (suc f) m))
+  where
+    regroup : (a b c d : Bool) → (((a && b) && c) && d) ≡ (a && ((b && c) && d))
+    regroup true b c d = refl
+    regroup false b c d = refl
+
+pub ranges-keep : Ranges-keep
+ranges-keep = λ S rs. kept-all rs 0 S

@@ -41,7 +41,7 @@ pub data Finishes (n : ℕ) : State → Trace → Outcome → Type 0 where
   -- nor does a spent match
   at-spent : Finishes n spent [] spent-run
 
--- the marks of S whose numbers lie in their ranges
+-- the marks of S whose numbers lie in their ranges: what is left when each field's range is kept, in field order
 abbrev pub inside : Marks → List Range → Marks
 inside S rs = λ m. S m && ranged rs 0 m
 
