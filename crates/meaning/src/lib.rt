@@ -59,8 +59,7 @@ pub fn comparisons_keep_by_sign()
 // A run starts with the marks that keeping each field's range leaves.
 pub fn runs_keep_ranges()
     ensures { λ _. ⌜ Ranges-keep ⌝ }
-{
-}
+{}
 
 // The marks of the runs are the allowed marks of the starting set, each by one trace.
 pub fn runs_are_lawful()
@@ -95,8 +94,7 @@ pub fn walks_end()
 // Each next run is nearer to the end of the walk.
 pub fn walks_come_nearer()
     ensures { λ _. ⌜ Walks-near ⌝ }
-{
-}
+{}
 
 // The worked examples hold.
 pub fn samples_hold()

@@ -16,7 +16,8 @@ use Rattle.formula.specs.declared.Join.{Join as JoinWord}
 use Rattle.formula.specs.Comparing.{holds}
 use Rattle.formula.specs.Trees as tree
 use Rattle.meaning.specs.Terms.{body, formula-of, value, wants}
-use Rattle.meaning.specs.Reading.{said, ran-out, Reads, tells, called, uncalled, turns, picked, left-out, left-only, right-too}
+use Rattle.meaning.specs.Reading.{said, ran-out, Reads, tells, called, uncalled, turns, picked, left-out}
+use Rattle.meaning.specs.Reading.{left-only, right-too}
 use Rattle.meaning.proofs.Basics.{and-left, and-right}
 use Rattle.sheet.specs.declared.node.Name.{Name}
 use Rattle.sheet.specs.declared.node.Term.{Term}
@@ -39,25 +40,34 @@ pub record Called (s : Sheet) (l r k : ℕ) (ts : List Term) : Type 0 where
   pub known : known-terms (s .«field_count») (line-at (s .lines) l .params) ts ≡ true
 
 module _ (s : Sheet) (l i : ℕ) (w : Within (s .«rule_count») (s .lines) l i) where
-  kept-as : (n : Node) → node-at (s .nodes) i ≡ n → entry-kept (s .«field_count») (s .«rule_count») (s .lines) l i n ≡ true
-  kept-as n is = sym (ap (entry-kept (s .«field_count») (s .«rule_count») (s .lines) l i) is) ∙ s .«entries_kept» l i w
+  kept-as :
+      {n : Node} → node-at (s .nodes) i ≡ n
+      → entry-kept (s .«field_count») (s .«rule_count») (s .lines) l i n ≡ true
+  kept-as is =
+      sym (ap (entry-kept (s .«field_count») (s .«rule_count») (s .lines) l i) is) ∙ s .«entries_kept» l i w
 
-  pub parts-as : (n : Node) → node-at (s .nodes) i ≡ n → Parts (line-at (s .lines) l .start) i n
-  parts-as n is = parts-of (s .«field_count») (s .«rule_count») (s .lines) l i n (kept-as n is)
+  -- its parts are entries of the line that stand before it
+  pub parts-as : {n : Node} → node-at (s .nodes) i ≡ n → Parts (line-at (s .lines) l .start) i n
+  parts-as {n} is = parts-of (s .«field_count») (s .«rule_count») (s .lines) l i n (kept-as is)
 
+  -- the two terms of a comparison are known
   pub terms-known :
-      (fields params : ℕ) → fields ≡ s .«field_count» → params ≡ line-at (s .lines) l .params
-      → (t : Term) (c : Comparison) (u : Term) → node-at (s .nodes) i ≡ Compare t c u
+      {fields params : ℕ} {t u : Term} {c : Comparison}
+      → fields ≡ s .«field_count»
+      → params ≡ line-at (s .lines) l .params
+      → node-at (s .nodes) i ≡ Compare t c u
       → (known-term fields params t ≡ true) × (known-term fields params u ≡ true)
-  terms-known fields params p q t c u is =
-      let e = kept-as (Compare t c u) is in (
-        ap₂ (λ (x y : ℕ). known-term x y t) p q ∙ and-left (known-term (s .«field_count») (line-at (s .lines) l .params) t) _ e,
-        ap₂ (λ (x y : ℕ). known-term x y u) p q ∙ and-right (known-term (s .«field_count») (line-at (s .lines) l .params) t) _ e,
+  terms-known {t = t} {u = u} p q is =
+      let left = known-term (s .«field_count») (line-at (s .lines) l .params) t in
+      let e = kept-as is in (
+        ap₂ (λ (x y : ℕ). known-term x y t) p q ∙ and-left left _ e,
+        ap₂ (λ (x y : ℕ). known-term x y u) p q ∙ and-right left _ e,
       )
 
-  pub call-kept : (r k : ℕ) (ts : List Term) → node-at (s .nodes) i ≡ Call r k ts → Called s l r k ts
-  call-kept r k ts is =
-      let e = kept-as (Call r k ts) is in
+  -- a call is of a rule of the sheet, with as many terms as that has parameters
+  pub call-kept : {r k : ℕ} {ts : List Term} → node-at (s .nodes) i ≡ Call r k ts → Called s l r k ts
+  call-kept {r} {k} is =
+      let e = kept-as is in
       let below : r < s .«rule_count» = grind (arith, tests, e) in
       let count : k ≡ line-at (s .lines) r .params = grind (arith, tests, e) in
       record {
@@ -67,6 +77,17 @@ module _ (s : Sheet) (l i : ℕ) (w : Within (s .«rule_count») (s .lines) l i)
         long = grind (arith, tests, e);
         known = grind (arith, tests, e);
       }
+
+-- the numbers that a call passes on are as many as the rule has parameters
+module _
+    {s : Sheet} {l r k : ℕ} {ts : List Term} (c : Called s l r k ts) (m e vs : List ℕ)
+    (p : vs ≡ values m e ts) where
+  pub numbers-long : length vs ≡ 4
+  numbers-long = ap length p ∙ length-map ts (λ t. value m e (term-of t)) ∙ c .long
+
+  pub numbers-count : length (take (k - 0) vs) ≡ line-at (s .lines) r .params
+  numbers-count =
+      length-take-le (k - 0) vs (omega (arith, numbers-long, c .few)) ∙ omega (arith, c .count)
 
 -- what stands past the end of the lines
 abbrev no-line : Line
@@ -80,89 +101,133 @@ rule-body s r lt =
     sym
     (ap formula-of
     (getD-map (rule-of (s .nodes)) (take (s .«rule_count») (s .lines)) r no-line _
-    (subst (λ (k : ℕ). r < k) (sym (length-take-le (s .«rule_count») (s .lines) (omega (arith, s .long, s .«few_rules»)))) lt)
+    (subst (λ (k : ℕ). r < k) (sym (length-take-le (s .«rule_count») (s .lines)
+    (omega (arith, s .long, s .«few_rules»)))) lt)
     ∙ ap (rule-of (s .nodes)) (getD-take (s .«rule_count») (s .lines) r no-line lt)))
 
-module _ (s : Sheet) (l i : ℕ) (w : Within (s .«rule_count») (s .lines) l i) (m e : List ℕ) (n : ℕ) where
-  -- an entry reads as the formula that it is the whole of
-  as-whole :
-      (x : Node) → node-at (s .nodes) i ≡ x → (r : Option Bool) (k : ℕ)
-      → Reads (rules s) m e (whole (formula-at (s .nodes)) x) n (answer r k)
-      → Reads (rules s) m e (formula-at (s .nodes) i) n (answer r k)
-  as-whole x is r k d =
-      subst (λ (F : tree.Formula). Reads (rules s) m e F n (answer r k))
-      (sym (formula-step s l i w ∙ ap (whole (formula-at (s .nodes))) is)) d
+-- an entry reads as the formula that it is the whole of
+as-whole :
+    (s : Sheet) (l i : ℕ) → Within (s .«rule_count») (s .lines) l i
+    → (m e : List ℕ) (n : ℕ) (x : Node) → node-at (s .nodes) i ≡ x → (o : Option Bool) (k : ℕ)
+    → Reads (rules s) m e (whole (formula-at (s .nodes)) x) n (answer o k)
+    → Reads (rules s) m e (formula-at (s .nodes) i) n (answer o k)
+as-whole s l i w m e n x is o k d =
+    subst (λ (F : tree.Formula). Reads (rules s) m e F n (answer o k))
+    (sym (formula-step s l i w ∙ ap (whole (formula-at (s .nodes))) is))
+    d
 
+-- the numbers that a call passes on
+passed :
+    (m e : List ℕ) (k : ℕ) (ts : List Term) (vs : List ℕ) → vs ≡ values m e ts
+    → take (k - 0) vs ≡ map (value m e) (map term-of (take k ts))
+passed m e k ts vs p =
+    let z : k - 0 ≡ k = omega arith in
+    ap₂ {C = List ℕ} (λ (x : ℕ) (l : List ℕ). take x l) z p
+    ∙ take-map (λ t. value m e (term-of t)) k ts
+    ∙ twice (take k ts)
+  where
+    twice : (l : List Term) → map (λ t. value m e (term-of t)) l ≡ map (value m e) (map term-of l)
+    twice [] = refl
+    twice (t ∷ l) = ap {B = List ℕ} (λ z. value m e (term-of t) ∷ z) (twice l)
+
+-- the reading of the entry i of the line l, by the kind of entry
+module _
+    {s : Sheet} {m e : List ℕ} {i n : ℕ} (l : ℕ) (w : Within (s .«rule_count») (s .lines) l i) where
   pub read-compare :
-      (t : Term) (c : Comparison) (u : Term) → node-at (s .nodes) i ≡ Compare t c u
-      → (x y : ℕ) → x ≡ value m e (term-of t) → y ≡ value m e (term-of u)
-      → (b : Bool) → b ≡ holds c x y
+      {t u : Term} {c : Comparison} {b : Bool} {x y : ℕ}
+      → node-at (s .nodes) i ≡ Compare t c u
+      → x ≡ value m e (term-of t)
+      → y ≡ value m e (term-of u)
+      → b ≡ holds c x y
       → Read s m e i n (Some b) n
-  read-compare t c u is x y p q b h =
+  read-compare {t} {u} {c} {b} is p q h =
       record {
-        reads = as-whole (Compare t c u) is (Some b) n
+        reads = as-whole s l i w m e n (Compare t c u) is (Some b) n
             (subst (λ (z : Bool). Reads (rules s) m e (tree.compare (term-of t) c (term-of u)) n (said z n))
             (sym (h ∙ ap₂ (holds c) p q)) tells);
         fuel = refl;
       }
 
-  pub read-uncalled : (r k : ℕ) (ts : List Term) → node-at (s .nodes) i ≡ Call r k ts → n ≡ 0 → Read s m e i n None n
-  read-uncalled r k ts is z =
+  pub read-uncalled :
+      {r k : ℕ} {ts : List Term} → node-at (s .nodes) i ≡ Call r k ts → n ≡ 0 → Read s m e i n None n
+  read-uncalled {r} {k} {ts} is z =
       record {
-        reads = as-whole (Call r k ts) is None n
-            (subst (λ (j : ℕ). Reads (rules s) m e (tree.call r (map term-of (take k ts))) j ran-out) (sym z) uncalled);
+        reads = as-whole s l i w m e n (Call r k ts) is None n
+            (subst (λ (j : ℕ). Reads (rules s) m e (tree.call r (map term-of (take k ts))) j ran-out)
+            (sym z) uncalled);
         fuel = sym z;
       }
 
   pub read-called :
-      (r k : ℕ) (ts : List Term) → node-at (s .nodes) i ≡ Call r k ts → n ≢ 0
-      → (vs : List ℕ) → vs ≡ values m e ts
-      → (o : Option Bool) (j : ℕ)
+      {r k : ℕ} {ts : List Term} {o : Option Bool} {j : ℕ} (vs : List ℕ)
+      → node-at (s .nodes) i ≡ Call r k ts
+      → n ≢ 0
+      → vs ≡ values m e ts
       → Read s m (take (k - 0) vs) (line-at (s .lines) r .body) (n - 1) o j
       → Read s m e i n o j
-  read-called r k ts is nz vs p o j d =
-      let c = call-kept s l i w r k ts is in
-      let same : take (k - 0) vs ≡ map (value m e) (map term-of (take k ts)) = taken k ts vs p in
-      let inner : Reads (rules s) m (map (value m e) (map term-of (take k ts))) (body (rules s) r) (n - 1) (answer o j) =
-      subst₂ (λ (d : List ℕ) (F : tree.Formula). Reads (rules s) m d F (n - 1) (answer o j)) same (rule-body s r (c .below)) (d .reads) in
+  read-called {r} {k} {ts} {o} {j} vs is nz p d =
+      let inner : Reads (rules s) m (map (value m e) (map term-of (take k ts))) (body (rules s) r) (n - 1)
+      (answer o j) =
+      subst₂ (λ (v : List ℕ) (F : tree.Formula). Reads (rules s) m v F (n - 1) (answer o j))
+      (passed m e k ts vs p) (rule-body s r (call-kept s l i w is .below)) (d .reads) in
       let up : suc (n - 1) ≡ n = omega arith in
       record {
-        reads = as-whole (Call r k ts) is o j
-            (subst (λ (z : ℕ). Reads (rules s) m e (tree.call r (map term-of (take k ts))) z (answer o j)) up (called inner));
+        reads = as-whole s l i w m e n (Call r k ts) is o j
+            (subst (λ (z : ℕ). Reads (rules s) m e (tree.call r (map term-of (take k ts))) z (answer o j)) up
+            (called inner));
         fuel = d .fuel;
       }
-    where
-      taken : (k : ℕ) (ts : List Term) (vs : List ℕ) → vs ≡ values m e ts → take (k - 0) vs ≡ map (value m e) (map term-of (take k ts))
-      taken k ts vs p =
-          let z : k - 0 ≡ k = omega arith in
-          ap₂ {C = List ℕ} (λ (x : ℕ) (l : List ℕ). take x l) z p ∙ take-map (λ t. value m e (term-of t)) k ts ∙ twice (take k ts)
-        where
-          twice : (l : List Term) → map (λ t. value m e (term-of t)) l ≡ map (value m e) (map term-of l)
-          twice [] = refl
-          twice (t ∷ l) = ap {B = List ℕ} (λ z. value m e (term-of t) ∷ z) (twice l)
 
   pub read-not :
-      (a : ℕ) → node-at (s .nodes) i ≡ Not a → (b : Bool) (k : ℕ)
-      → Read s m e a n (Some b) k → Read s m e i n (Some (not b)) k
-  read-not a is b k d = record { reads = as-whole (Not a) is (Some (not b)) k (turns (d .reads)); fuel = refl }
+      {a k : ℕ} {b : Bool}
+      → node-at (s .nodes) i ≡ Not a
+      → Read s m e a n (Some b) k
+      → Read s m e i n (Some (not b)) k
+  read-not {a} {k} {b} is d =
+      record { reads = as-whole s l i w m e n (Not a) is (Some (not b)) k (turns (d .reads)); fuel = refl }
 
-  pub read-not-out : (a : ℕ) → node-at (s .nodes) i ≡ Not a → (k : ℕ) → Read s m e a n None k → Read s m e i n None k
-  read-not-out a is k d = record { reads = as-whole (Not a) is None k (turns (d .reads)); fuel = d .fuel }
+  pub read-not-out :
+      {a k : ℕ} {o : Option Bool}
+      → node-at (s .nodes) i ≡ Not a
+      → o ≡ None
+      → Read s m e a n None k
+      → Read s m e i n o k
+  read-not-out {a} {k} is z d =
+      subst (λ (o : Option Bool). Read s m e i n o k) (sym z)
+      (record { reads = as-whole s l i w m e n (Not a) is None k (turns (d .reads)); fuel = d .fuel })
 
   pub read-pick :
-      (x : Name) (a : ℕ) → node-at (s .nodes) i ≡ Pick x a → (o : Option Bool) (k : ℕ)
-      → Read s m e a n o k → Read s m e i n o k
-  read-pick x a is o k d = record { reads = as-whole (Pick x a) is o k (picked (d .reads)); fuel = d .fuel }
+      {x : Name} {a k : ℕ} {o : Option Bool}
+      → node-at (s .nodes) i ≡ Pick x a
+      → Read s m e a n o k
+      → Read s m e i n o k
+  read-pick {x} {a} {k} {o} is d =
+      record { reads = as-whole s l i w m e n (Pick x a) is o k (picked (d .reads)); fuel = d .fuel }
 
-  module _ (j : JoinWord) (v u a b : ℕ) (is : node-at (s .nodes) i ≡ Join j v u a b) where
-    pub read-left-out : (k : ℕ) → Read s m e a n None k → Read s m e i n None k
-    read-left-out k d = record { reads = as-whole (Join j v u a b) is None k (left-out (d .reads)); fuel = d .fuel }
+  module _ {j : JoinWord} {v u a b : ℕ} (is : node-at (s .nodes) i ≡ Join j v u a b) where
+    pub read-left-out : {k : ℕ} {o : Option Bool} → o ≡ None → Read s m e a n None k → Read s m e i n o k
+    read-left-out {k} z d =
+        subst (λ (o : Option Bool). Read s m e i n o k) (sym z)
+        (record {
+          reads = as-whole s l i w m e n (Join j v u a b) is None k (left-out (d .reads));
+          fuel = d .fuel;
+        })
 
-    pub read-left : (c : Bool) (k : ℕ) → c ≢ wants j → Read s m e a n (Some c) k → Read s m e i n (Some c) k
-    read-left c k h d = record { reads = as-whole (Join j v u a b) is (Some c) k (left-only h (d .reads)); fuel = refl }
+    pub read-left : {c : Bool} {k : ℕ} → c ≢ wants j → Read s m e a n (Some c) k → Read s m e i n (Some c) k
+    read-left {c} {k} h d =
+        record {
+          reads = as-whole s l i w m e n (Join j v u a b) is (Some c) k (left-only h (d .reads));
+          fuel = refl;
+        }
 
     pub read-right :
-        (c : Bool) (k : ℕ) (o : Option Bool) (q : ℕ) → c ≡ wants j
-        → Read s m e a n (Some c) k → Read s m e b k o q → Read s m e i n o q
-    read-right c k o q h d f =
-        record { reads = as-whole (Join j v u a b) is o q (right-too h (d .reads) (f .reads)); fuel = f .fuel }
+        {c : Bool} {k q : ℕ} {o : Option Bool}
+        → c ≡ wants j
+        → Read s m e a n (Some c) k
+        → Read s m e b k o q
+        → Read s m e i n o q
+    read-right {c} {k} {q} {o} h d f =
+        record {
+          reads = as-whole s l i w m e n (Join j v u a b) is o q (right-too h (d .reads) (f .reads));
+          fuel = f .fuel;
+        }

@@ -11,7 +11,6 @@ use lib.ListN.{getD, length, take, drop}
 use lib.Seq.{drop-cons}
 use borrow.Author.Tests.{apart-eqb, lt-ltb, le-ltb}
 use Rattle.std.specs.declared.option.Option.{Option}
-use Rattle.std.specs.Orderings.{When}
 use Rattle.std.specs.shelf.Lists.{All}
 use Rattle.std.proofs.shelf.Lists.{length-map, length-take-le, getD-take, getD-map, at-drop-all}
 use Rattle.formula.specs.declared.Comparison.the-variants.{AtMost, AtLeast}
@@ -20,13 +19,14 @@ use Rattle.formula.specs.Trees as tree
 use Rattle.formula.specs.Trees.{range}
 use Rattle.marks.specs.Sets.{Shaped}
 use Rattle.meaning.specs.Terms.{ranges-of, fields-of}
-use Rattle.meaning.specs.Reading.{ranged, calls-made, Verdict, not-allowed, verdict, Checks, out-of-range, in-range}
+use Rattle.meaning.specs.Reading.{ranged, calls-made, Verdict, not-allowed, verdict, Checks, out-of-range}
+use Rattle.meaning.specs.Reading.{in-range}
 use Rattle.meaning.proofs.Readings.{calls-spend}
 use Rattle.sheet.specs.declared.node.Range.{Range}
 use Rattle.sheet.specs.declared.table.Sheet.{Sheet}
 use Rattle.sheet.specs.Table.{range-at, line-at}
 use Rattle.sheet.specs.Sheets.{range-of, tree-of}
-use Rattle.reading.specs.Steps.{Small, answer, rules, ranges, Read}
+use Rattle.reading.specs.Steps.{Says, Small, answer, rules, ranges, Read}
 
 -- what stands past the end of the ranges
 abbrev no-range : Range
@@ -42,7 +42,9 @@ module _ (s : Sheet) where
 
   pub fields-counted : fields-of (tree-of s) ≡ s .«field_count»
   unfolding tree-of
-  fields-counted = length-map (take (s .«field_count») (s .ranges)) range-of ∙ length-take-le (s .«field_count») (s .ranges) few-fields
+  fields-counted =
+      length-map (take (s .«field_count») (s .ranges)) range-of
+      ∙ length-take-le (s .«field_count») (s .ranges) few-fields
 
   pub tree-ranges : ranges-of (tree-of s) ≡ ranges s
   unfolding tree-of
@@ -51,16 +53,16 @@ module _ (s : Sheet) where
   -- the shape of a mark
 
   pub shaped-when :
-      (m : List ℕ) (b : Bool) → length m ≡ s .«field_count» → When b (All Small m) (All Small m → ⊥)
-      → When b (Shaped (fields-of (tree-of s)) m) (Shaped (fields-of (tree-of s)) m → ⊥)
+      (m : List ℕ) (b : Bool) → length m ≡ s .«field_count» → Says b (All Small m)
+      → Says b (Shaped (fields-of (tree-of s)) m)
   shaped-when m true p a = (p ∙ sym fields-counted, a)
   shaped-when m false p n = λ x. n (x .1)
 
   pub shaped-else :
       (m : List ℕ) → (length m ≡ s .«field_count» → ⊥)
-      → When (eqb (length m) (s .«field_count»)) (Shaped (fields-of (tree-of s)) m) (Shaped (fields-of (tree-of s)) m → ⊥)
+      → Says (eqb (length m) (s .«field_count»)) (Shaped (fields-of (tree-of s)) m)
   shaped-else m n =
-      subst (λ (b : Bool). When b (Shaped (fields-of (tree-of s)) m) (Shaped (fields-of (tree-of s)) m → ⊥))
+      subst (λ (b : Bool). Says b (Shaped (fields-of (tree-of s)) m))
       (sym (apart-eqb (length m) (s .«field_count») n))
       (λ x. n (x .0 ∙ fields-counted))
 
@@ -68,7 +70,8 @@ module _ (s : Sheet) where
 
   module _ (m : List ℕ) (f : ℕ) (lt : f < s .«field_count») where
     next-range :
-        drop f (ranges s) ≡ range (range-at (s .ranges) f .low) (range-at (s .ranges) f .high) ∷ drop (suc f) (ranges s)
+        drop f (ranges s) ≡ range (range-at (s .ranges) f .low) (range-at (s .ranges) f .high) ∷ drop
+        (suc f) (ranges s)
     next-range =
         let few : f < length (take (s .«field_count») (s .ranges)) =
         subst (λ (k : ℕ). f < k) (sym (length-take-le (s .«field_count») (s .ranges) few-fields)) lt in
@@ -99,7 +102,8 @@ module _ (s : Sheet) where
         → getD m f 0 < range-at (s .ranges) f .low
         → false ≡ ranged (ranges s) 0 m
     ranged-below h less =
-        sym (h ∙ next-field ∙ ap (λ (b : Bool). (not b && within) && past) (lt-ltb (getD m f 0) (range-at (s .ranges) f .low) less))
+        sym (h ∙ next-field ∙ ap (λ (b : Bool). (not b && within) && past)
+        (lt-ltb (getD m f 0) (range-at (s .ranges) f .low) less))
 
     pub ranged-above :
         ranged (ranges s) 0 m ≡ ranged (drop f (ranges s)) f m
@@ -107,7 +111,8 @@ module _ (s : Sheet) where
         → false ≡ ranged (ranges s) 0 m
     ranged-above h less =
         sym (h ∙ next-field
-        ∙ ap (λ (b : Bool). (from-low && not b) && past) (lt-ltb (range-at (s .ranges) f .high) (getD m f 0) less)
+        ∙ ap (λ (b : Bool). (from-low && not b) && past)
+        (lt-ltb (range-at (s .ranges) f .high) (getD m f 0) less)
         ∙ ap (λ (b : Bool). b && past) (and-false from-low))
 
     pub ranged-more :
@@ -118,7 +123,8 @@ module _ (s : Sheet) where
     ranged-more h low high =
         h ∙ next-field
         ∙ ap₂ (λ (a b : Bool). (not a && not b) && past)
-        (le-ltb (getD m f 0) (range-at (s .ranges) f .low) low) (le-ltb (range-at (s .ranges) f .high) (getD m f 0) high)
+        (le-ltb (getD m f 0) (range-at (s .ranges) f .low) low)
+        (le-ltb (range-at (s .ranges) f .high) (getD m f 0) high)
         ∙ ap (λ (k : ℕ). ranged (drop k (ranges s)) k m) (sym (add-one f))
 
   pub ranged-all :
@@ -130,11 +136,14 @@ module _ (s : Sheet) where
       sym (h ∙ at-drop-all (λ rs. ranged rs f m) (ranges s) f few)
     where
       fields-counted-as : length (ranges s) ≡ s .«field_count»
-      fields-counted-as = length-map (take (s .«field_count») (s .ranges)) range-of ∙ length-take-le (s .«field_count») (s .ranges) few-fields
+      fields-counted-as =
+          length-map (take (s .«field_count») (s .ranges)) range-of
+          ∙ length-take-le (s .«field_count») (s .ranges) few-fields
 
   -- the whole check
 
-  pub checks-out : (m : List ℕ) (fuel : ℕ) → false ≡ ranged (ranges s) 0 m → Checks (tree-of s) m fuel not-allowed 0
+  pub checks-out :
+      (m : List ℕ) (fuel : ℕ) → false ≡ ranged (ranges s) 0 m → Checks (tree-of s) m fuel not-allowed 0
   unfolding tree-of
   checks-out m fuel p = out-of-range (sym p)
 

@@ -30,8 +30,9 @@ abbrev pub answer-of : Result Reading Refusal → Answer
 answer-of (Ok r) = checked (verdict-of (r .verdict)) (r .calls)
 answer-of (Err e) = refused (number e)
 
--- the answer to a check of the list m against the sheet s is right: a mark of the sheet's fields has the verdict and
--- the calls of its plain reading, and 16 refuses exactly a list of the wrong length or with a number above 1,023
+-- the answer to a check of the list m against the sheet s is right: a mark of the sheet's fields has the
+-- verdict and the calls of its plain reading, and 16 refuses exactly a list of the wrong length or with a
+-- number above 1,023
 abbrev pub Right : Sheet → List ℕ → (fuel : ℕ) → Answer → Type 0
 Right s m fuel (checked v calls) = Shaped (fields-of s) m × plain.Checks s m fuel v calls
 Right s m fuel (refused n) = (n ≡ 16) × (Shaped (fields-of s) m → ⊥)

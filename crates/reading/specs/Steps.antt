@@ -1,7 +1,7 @@
 -- What the private functions of the reading promise; only their proofs need this.
 use Prim.Native.Nat.{ℕ, _<_}
 use mathlib.Core.Path.{_≡_}
-use mathlib.Core.Bool.{Bool}
+use mathlib.Core.Bool.{Bool, true, false}
 use mathlib.Core.List.{List, map}
 use lib.ListN.{take}
 use Rattle.std.specs.declared.option.Option.{Option}
@@ -13,6 +13,11 @@ use Rattle.sheet.specs.declared.node.Term.{Term}
 use Rattle.sheet.specs.declared.table.Sheet.{Sheet}
 use Rattle.sheet.specs.Table.{term-of, formula-at}
 use Rattle.sheet.specs.Sheets.{range-of, rule-of}
+
+-- a test says whether P holds
+abbrev pub Says : Bool → Type 0 → Type 0
+Says true P = P
+Says false P = P → ⊥
 
 -- a number that a mark may hold
 abbrev pub Small : ℕ → Type 0

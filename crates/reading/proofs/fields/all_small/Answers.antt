@@ -12,12 +12,14 @@ use Rattle.reading.proofs.fields.all_small.Needs as need
 pub returns-then-number-gt1023 : need.returns-then-number-gt1023
 returns-then-number-gt1023 c =
     λ all.
-    (let h : getD (c .args .mark .now) (c .loop-number .number-index) 0 < 1024 = all-getD Small (c .args .mark .now) (c .loop-number .number-index) 0 (c .loop-number-test .taken) all in
+    (let h : getD (c .args .mark .now) (c .loop-number .number-index) 0 < 1024 = all-getD Small
+    (c .args .mark .now) (c .loop-number .number-index) 0 (c .loop-number-test .taken) all in
     omega arith)
 
 pub loop-number-again : need.loop-number-again
 loop-number-again c =
-    all-more Small (c .args .mark .now) (c .loop-number .number-index) 0 (c .loop-number-test .taken) (c .loop-number .inv) (omega arith)
+    all-more Small (c .args .mark .now) (c .loop-number .number-index) 0 (c .loop-number-test .taken)
+    (c .loop-number .inv) (omega arith)
 
 pub returns : need.returns
 returns c =
