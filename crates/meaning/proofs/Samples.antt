@@ -36,7 +36,9 @@ module _ (ρ : Telling) (fair : Fair ρ) where
   runs-by :
       (sh : Sheet) (fuel : ℕ) (S : Marks) → Counted (inside S (ranges-of sh)) → (ns : List ℕ)
       → (t : Trace) × (a : Outcome) × (l : List ℕ) × Run sh fuel S t a × Told ρ ns t l
-  unfolding counted-box counted-list counted-part unknown-dec along empty-dec lives-some next-pick settles-told resolves-told passes-told leaves-told ends-told comparison then-on joined step more total finishes-told run-told
+  unfolding counted-box counted-list counted-part unknown-dec along empty-dec lives-some next-pick
+      settles-told resolves-told passes-told leaves-told ends-told comparison then-on joined step more total
+      finishes-told run-told
   runs-by sh fuel S C ns = run-told ρ fair sh fuel S C ns
 
 every-long : (n : ℕ) (m : List ℕ) → every n m ≡ true → length m ≡ n

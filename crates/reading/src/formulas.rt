@@ -35,7 +35,8 @@ pub(crate) fn read(
     requires within { ⌜ Within (now sheet .«rule_count») (now sheet .lines) line node ⌝ }
     requires fields { ⌜ length (now mark) ≡ now sheet .«field_count» ⌝ }
     requires params { ⌜ length (now args) ≡ line-at (now sheet .lines) line .params ⌝ }
-    ensures read { λ r. ⌜ Read (now (sheet .entry)) (now (mark .entry)) (now (args .entry)) node (now (fuel .entry)) r (now (fuel .exit)) ⌝ }
+    ensures read { λ r. ⌜ Read (now (sheet .entry)) (now (mark .entry)) (now (args .entry)) node
+        (now (fuel .entry)) r (now (fuel .exit)) ⌝ }
     ensures falls { λ _. ⌜ now (fuel .exit) ≤ now (fuel .entry) ⌝ }
 {
     let entry = sheet.nodes[node];

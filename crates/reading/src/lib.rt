@@ -43,7 +43,8 @@ pub fn check(sheet: &Sheet, mark: &[u16], fuel: u8) -> Result<Reading, Refusal>
 // Reads a mark of the sheet's fields: its ranges, and then the formula of the mark line.
 fn read_mark(sheet: &Sheet, mark: &[u16], fuel: u8) -> Reading
     requires { ⌜ Shaped (fields-of (tree-of (now sheet))) (now mark) ⌝ }
-    ensures { λ r. ⌜ Checks (tree-of (now (sheet .entry))) (now (mark .entry)) fuel (verdict-of (r .verdict)) (r .calls) ⌝ }
+    ensures { λ r. ⌜ Checks (tree-of (now (sheet .entry))) (now (mark .entry)) fuel
+        (verdict-of (r .verdict)) (r .calls) ⌝ }
 {
     if !fields::in_ranges(sheet, mark) {
         return Reading {
