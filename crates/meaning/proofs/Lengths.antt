@@ -285,7 +285,7 @@ module _ (w : ℕ) where
   ends-grows (ends {t = t} {u = u} s r) =
       grows-join _ _ _ t u (settles-grows s) (λ m h. settles-sound s m h .0) (ends-grows r)
 
-  -- the same of outcomes
+  -- the same of states
   abbrev Stays : (ℕ → Bool) → State → Type 0
   Stays K o = (f : ℕ) → K f ≡ true → (v : ℕ) × ((m : List ℕ) → Held o m → getD m f 0 ≡ v)
 

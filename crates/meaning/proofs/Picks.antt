@@ -167,7 +167,7 @@ module _ (ρ : Telling) (fair : Fair ρ) where
           omega arith,
         )
 
-    -- what follows an outcome
+    -- what follows a state
     unfoldable pub then-on :
         (n : ℕ) (G : Formula) → ((k : ℕ) → k ≤ n → At n k G) → (e : List Argument) (b : Bool) (S : Marks)
         → Counted S → (i : State) → fuel-of i ≤ n → Alive i → ((m : List ℕ) → Held i m → S m ≡ true)

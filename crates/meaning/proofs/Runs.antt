@@ -92,7 +92,7 @@ ends-complete f (suc c) S C m h =
           (settles-sound (r .3) m (r .4) .1) (r .3)) (q .2),
     )
 
--- a live outcome has a mark
+-- a live state has a mark
 abbrev pub Alive : State → Type 0
 Alive (live n S) = Empty S → ⊥
 Alive dead = Unit {0}

@@ -21,13 +21,13 @@ use Rattle.meaning.specs.Matching.{picks, both-sides, left-side, right-side}
 use Rattle.meaning.proofs.Basics.{and-left, and-right, other, aimed-holds, at-arg}
 use Rattle.meaning.proofs.Values.{in-one}
 
--- the outcome's set holds m
+-- the state's set holds m
 abbrev pub Held : State → List ℕ → Type 0
 Held (live n S) m = S m ≡ true
 Held dead m = ⊥
 Held spent m = ⊥
 
--- the fuel that an outcome has left
+-- the fuel that a state has left
 abbrev pub fuel-of : State → ℕ
 fuel-of (live n S) = n
 fuel-of dead = 0

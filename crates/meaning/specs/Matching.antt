@@ -33,7 +33,7 @@ abbrev pub argument : (e : List Argument) → Name → Argument
 argument e (field f) = the-field f
 argument e (param p) = getD e p (the-number 0)
 
--- Settles S a t S′ v: in the set S, settling a takes the trace t, leaves the set S′ and gives the number v
+-- Settles S a t S′ v: in the set S, narrowing a to one number takes the trace t, leaves the set S′ and gives v
 pub data Settles (S : Marks) : Argument → Trace → Marks → ℕ → Type 0 where
   -- a number makes no choice
   number :
