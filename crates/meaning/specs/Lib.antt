@@ -1,0 +1,17 @@
+pub mod Terms
+pub mod Reading
+pub mod ReadingLaws
+pub mod Traces
+pub mod Matching
+pub mod MatchingLaws
+pub mod Comparisons
+pub mod Pending
+pub mod Runs
+pub mod RunLaws
+pub mod Lengths
+pub mod Picks
+pub mod Draws
+pub mod Walks
+pub mod WalkLaws
+pub mod Remaining
+pub mod Samples
