@@ -10,7 +10,7 @@ use lib.Dec.{eqb, ltb}
 use Rattle.std.proofs.shelf.Elements.{all-getD}
 use Rattle.std.proofs.shelf.Tests.{and-from, and-parts, eqb-true, eq-eqb, lt-ltb, le-ltb, cases-bool, cases-lt, both-ways, cond-true, cond-false}
 use Rattle.marks.specs.Sets.{Marks, Shaped, MarksOf, Empty, In, Values}
-use Rattle.marks.specs.Counted.{any-below, below, some, takes, values, SomeTells, Takes}
+use Rattle.marks.specs.Counted.{any-below, below, some, takes, values, Taken}
 use Rattle.marks.proofs.Below.{any-below-decides, below-in, in-below, below-ascending, below-same, below-none, length-le}
 
 -- some
@@ -38,10 +38,8 @@ empty-some n S h = ⊎-elim (λ t. let r = some-sound n S t in absurd (h (r .0) 
 pub none-empty : (n : ℕ) (S : Marks) → MarksOf n S → some n S ≡ false → Empty S
 none-empty n S sh e m g = both-ways _ e (some-complete n S m (sh m g) g)
 
-pub some-tells : (n : ℕ) (S : Marks) → MarksOf n S → SomeTells n S
-some-tells n S sh =
-    ((λ t h. let r = some-sound n S t in h (r .0) (r .2)),
-     (λ h. ⊎-elim (λ t. t) (λ e. absurd (h (none-empty n S sh e))) (cases-bool (some n S))))
+pub some-not-empty : (n : ℕ) (S : Marks) → some n S ≡ true → Empty S → ⊥
+some-not-empty n S t h = let r = some-sound n S t in h (r .0) (r .2)
 
 -- takes
 
@@ -112,5 +110,5 @@ values-are n S f sh h =
         none (r .0) (r .2) (r .3)
     })
 
-pub values-taken : (n : ℕ) (S : Marks) (f : ℕ) → MarksOf n S → Takes n S f (values n S f)
+pub values-taken : (n : ℕ) (S : Marks) (f : ℕ) → MarksOf n S → Taken n S f (values n S f)
 values-taken n S f sh = (values-are n S f sh, values-outside n S f)

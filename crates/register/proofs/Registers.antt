@@ -27,7 +27,7 @@ use Rattle.store.specs.Rows.{has}
 use Rattle.store.specs.Opens.{every-mark, open-left}
 use Rattle.store.specs.Sounds.{every-has, marks-in-of}
 use Rattle.register.specs.declared.RegisterStore.{RegisterStore}
-use Rattle.register.specs.Registers.{row-at, IsRow, HasRows, same, is-row, mark-rows, numbers-of, width-of, register-start, register-left}
+use Rattle.register.specs.Registers.{row-at, IsRow, HasRows, same, is-row, both, numbers-of, width-of, register-left}
 use Rattle.register.specs.Sounds.{left-of}
 
 -- Rows
@@ -79,8 +79,9 @@ is-row-row register n m e =
     (w .0, w .1, same-true m (row-at register n (w .0)) (w .2))
 
 -- The set that a register store starts with is the set of the register's marks
-pub rows-are-marks : (register : List ℕ) (n : ℕ) → 1 ≤ n → HasRows n register (mark-rows register n)
-unfolding mark-rows
+
+pub rows-are-marks : (register : List ℕ) (n : ℕ) → 1 ≤ n → HasRows n register (both (is-row register n) (every-mark n))
+unfolding both
 rows-are-marks register n one m =
     ((λ e. let p = and-parts (is-row register n m) (every-mark n m) e in
            let w = is-row-row register n m (p .0) in
@@ -89,19 +90,14 @@ rows-are-marks register n one m =
            let row = row-is-row register n i (row-counts (length register) n i one (h .0 .1)) in
            and-from _ _ (subst (λ z. is-row register n z ≡ true) (sym (h .0 .2)) row) (every-has n m .1 (h .1))))
 
--- Restart and keep
-
-pub left-restarted : (s : RegisterStore) (n : ℕ) → width-of s ≡ n → open-left (s .allowed) ≡ every-mark n
-    → register-left s ≡ mark-rows (numbers-of s) n
-unfolding register-left mark-rows
-left-restarted s n e q = λ i m. is-row (numbers-of s) (e i) m && q i m
+-- Keep
 
 -- a register store t over the same register as s, whose fields allow what a keep left
 pub left-keeps : {X : Type 0} (s t : RegisterStore) (f : ℕ) (c : Comparison) (k : ℕ) (r : Result X Refusal)
     → numbers-of t ≡ numbers-of s → width-of t ≡ width-of s
     → Keeps (width-of s) (open-left (s .allowed)) (open-left (t .allowed)) f c k r
     → Keeps (width-of s) (register-left s) (register-left t) f c k r
-unfolding register-left
+unfolding both
 left-keeps s t f c k (Ok x) e w h =
     (h .0, λ i m.
      (ap (λ b. b && open-left (t .allowed) m) (λ j. is-row (e j) (w j) m)
@@ -124,14 +120,14 @@ module _ (s : RegisterStore) where
   -- a mark that is left is a row that each field allows, and the other way round
   left-row : (m : List ℕ) → register-left s m ≡ true
       → (i : ℕ) × (i < count) × (m ≡ row i) × (open-left (s .allowed) m ≡ true)
-  unfolding register-left
+  unfolding both
   left-row m e =
       let p = and-parts (is-row (numbers-of s) n m) (open-left (s .allowed) m) e in
       let w = is-row-row (numbers-of s) n m (p .0) in
       (w .0, w .1, w .2, p .1)
 
   row-left : (i : ℕ) → i < count → open-left (s .allowed) (row i) ≡ true → register-left s (row i) ≡ true
-  unfolding register-left
+  unfolding both
   row-left i h e = and-from _ _ (row-is-row (numbers-of s) n i h) e
 
   pub some-left : (i : ℕ) → i < count → open-left (s .allowed) (row i) ≡ true → some n (register-left s) ≡ true

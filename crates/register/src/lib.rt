@@ -3,6 +3,7 @@ ghost use Prim.Native.Nat.{_*_, _/_, _+_, _<_};
 ghost use mathlib.Core.Path.{_≡_};
 ghost use lib.ListN.{length};
 ghost use denote.Ref.{now};
+ghost use Rattle.store.specs.Rules.{TellsEmpty};
 ghost use Rattle.store.specs.Rows.{HasTaken};
 ghost use Rattle.register.specs.Registers.{HasRows, numbers-of, width-of, row-at, register-start, register-left};
 ghost use Rattle.register.specs.Sounds.{register-sound};
@@ -52,6 +53,18 @@ impl RegisterStore<'_> {
         &self.register[from..from + width]
     }
 
+    // Whether no row is left.
+    fn none_left(&self) -> bool
+        ensures { λ r. ⌜ TellsEmpty (width-of (now (self .entry))) (register-left (now (self .entry))) r ⌝ }
+    {
+        for i in 0..self.row_count() {
+            if self.allowed.contains(self.row(i)) {
+                return false;
+            }
+        }
+        true
+    }
+
     // The numbers that a field takes in the rows that are left.
     fn seen(&self, field: usize) -> Row
         ensures { λ r. ⌜ HasTaken (width-of (now (self .entry))) (register-left (now (self .entry))) field r ⌝ }
@@ -92,12 +105,7 @@ pub impl Store for RegisterStore<'_> as RegisterRows {
     }
 
     fn is_empty(&self) -> bool {
-        for i in 0..self.row_count() {
-            if self.allowed.contains(self.row(i)) {
-                return false;
-            }
-        }
-        true
+        self.none_left()
     }
 
     fn count(&self, field: usize) -> usize {

@@ -4,16 +4,20 @@ use mathlib.Core.Path.{_≡_}
 use mathlib.Core.Bool.{Bool, true, false, _&&_}
 use mathlib.Core.List.{List, [], _∷_}
 use lib.Dec.{eqb, ltb}
-use lib.ListN.{length}
+use lib.ListN.{length, set}
 use denote.Ref.{RefT, now}
 use Rattle.std.specs.Orderings.{Decides}
 use Rattle.std.specs.declared.option.Option.{Option}
 use Rattle.std.specs.declared.option.Option.the-variants.{Some, None}
 use Rattle.marks.specs.Sets.{Marks, Shaped}
-use Rattle.marks.specs.Counted.{values, Takes}
+use Rattle.marks.specs.Counted.{values, Taken}
 use Rattle.store.specs.declared.row.Row.{Row}
 use Rattle.store.specs.declared.open.OpenStore.{OpenStore}
 use Rattle.store.specs.Rows.{has, HasTaken}
+
+-- the store with row i replaced
+abbrev pub with-row : {R : Type 0} → OpenStore R → ℕ → R → OpenStore R
+with-row s i r = record { width = s .width; rows = set (s .rows) i r; few = s .few }
 
 -- S is the set of every mark of n fields
 abbrev pub HasEvery : ℕ → Marks → Type 0
@@ -49,4 +53,4 @@ open-left s = marks-in (s .width) (s .rows)
 -- the row, if any, has just the numbers that the field takes in S; there is none where the field takes no number
 abbrev pub InRow : (n : ℕ) (S : Marks) (f : ℕ) → Option (RefT Row) → Type 0
 InRow n S f (Some r) = HasTaken n S f (now r)
-InRow n S f None = Takes n S f (values n S f) × (values n S f ≡ [])
+InRow n S f None = Taken n S f (values n S f) × (values n S f ≡ [])

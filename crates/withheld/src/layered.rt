@@ -45,7 +45,7 @@ impl<S: Store> Withheld<S> {
         self.count == 32
     }
 
-    // Takes one pair more into the list.
+    // Taken one pair more into the list.
     fn push(&mut self, pair: Pair)
         requires { ⌜ length (pairs-of (now self)) < 32 ⌝ }
         ensures pairs { λ _. ⌜ pairs-of (now (self .exit)) ≡ pairs-of (now (self .entry)) ++ pair ∷ [] ⌝ }

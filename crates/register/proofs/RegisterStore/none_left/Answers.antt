@@ -7,7 +7,7 @@ use Rattle.store.proofs.Rules.{tells-empty}
 use Rattle.register.specs.Registers.{width-of, register-left}
 use Rattle.register.specs.Sounds.{left-of}
 use Rattle.register.proofs.Registers.{some-left, none-left}
-use Rattle.register.proofs.RegisterRows.is_empty.Needs as need
+use Rattle.register.proofs.RegisterStore.none_left.Needs as need
 
 pub loop-i-again : need.loop-i-again
 loop-i-again c =

@@ -6,7 +6,7 @@ use Rattle.store.specs.Opens.{open-left}
 use Rattle.store.specs.Sounds.{marks-in-of}
 use Rattle.store.proofs.Rules.{tells-empty}
 use Rattle.store.proofs.Opens.{marks-some, marks-none}
-use Rattle.store.proofs.open_rows.OpenRows.is_empty.Needs as need
+use Rattle.store.proofs.open_rows.OpenStore.has_empty_row.Needs as need
 
 pub loop-i-again : need.loop-i-again
 loop-i-again c = below-more _ _ (c .loop-i .inv) (sym (c .if-not-any .ensures tt))
