@@ -1,4 +1,5 @@
--- Whether a set of marks of n fields has a mark, and which numbers a field takes in it, found by trying every number.
+-- Whether a set of marks of n fields has a mark, and which numbers a field takes in it, found by trying
+-- every number.
 -- So equal sets have equal lists of values.
 use Prim.Native.Nat.{ℕ, zero, suc, _<_, _≤_}
 use mathlib.Core.Path.{_≡_}

@@ -1,4 +1,5 @@
--- The marks of a register: its rows are its marks, keeping and restarting, and the numbers that a field takes.
+-- The marks of a register: its rows are its marks, keeping and restarting, and the numbers that a field
+-- takes.
 use Prim.Native.Nat.{ℕ, zero, suc, _+_, _*_, _/_, _<_, _≤_}
 use mathlib.Core.Path.{_≡_, refl, sym, ap, subst, _∙_}
 use mathlib.Core.Logic.{⊎-elim}
@@ -62,10 +63,12 @@ row-counts len n i one h =
     let l : i + 1 ≤ len / n = le-div-iff-mul-le one .1 b in
     omega arith
 
-pub row-length : (register : List ℕ) (n i : ℕ) → i * n + n ≤ length register → length (row-at register n i) ≡ n
+pub row-length : (register : List ℕ) (n i : ℕ) → i * n + n ≤ length register
+    → length (row-at register n i) ≡ n
 row-length register n i h = simp (length-take, length-drop) (omega arith)
 
-row-is-row : (register : List ℕ) (n i : ℕ) → i < length register / n → is-row register n (row-at register n i) ≡ true
+row-is-row : (register : List ℕ) (n i : ℕ) → i < length register / n
+    → is-row register n (row-at register n i) ≡ true
 unfolding is-row
 row-is-row register n i h =
     any-below-decides (λ k. same (row-at register n i) (row-at register n k)) (length register / n) .1
@@ -80,15 +83,17 @@ is-row-row register n m e =
 
 -- The set that a register store starts with is the set of the register's marks
 
-pub rows-are-marks : (register : List ℕ) (n : ℕ) → 1 ≤ n → HasRows n register (both (is-row register n) (every-mark n))
+pub rows-are-marks : (register : List ℕ) (n : ℕ) → 1 ≤ n
+    → HasRows n register (both (is-row register n) (every-mark n))
 unfolding both
-rows-are-marks register n one m =
-    ((λ e. let p = and-parts (is-row register n m) (every-mark n m) e in
-           let w = is-row-row register n m (p .0) in
-           ((w .0, row-fits (length register) n (w .0) (w .1), w .2), every-has n m .0 (p .1))),
-     (λ h. let i = h .0 .0 in
-           let row = row-is-row register n i (row-counts (length register) n i one (h .0 .1)) in
-           and-from _ _ (subst (λ z. is-row register n z ≡ true) (sym (h .0 .2)) row) (every-has n m .1 (h .1))))
+rows-are-marks register n one m = (
+  (λ e. let p = and-parts (is-row register n m) (every-mark n m) e in
+      let w = is-row-row register n m (p .0) in
+      ((w .0, row-fits (length register) n (w .0) (w .1), w .2), every-has n m .0 (p .1))),
+  (λ h. let i = h .0 .0 in
+      let row = row-is-row register n i (row-counts (length register) n i one (h .0 .1)) in
+      and-from _ _ (subst (λ z. is-row register n z ≡ true) (sym (h .0 .2)) row) (every-has n m .1 (h .1))),
+)
 
 -- Keep
 
@@ -98,11 +103,14 @@ pub left-keeps : {X : Type 0} (s t : RegisterStore) (f : ℕ) (c : Comparison) (
     → Keeps (width-of s) (open-left (s .allowed)) (open-left (t .allowed)) f c k r
     → Keeps (width-of s) (register-left s) (register-left t) f c k r
 unfolding both
-left-keeps s t f c k (Ok x) e w h =
-    (h .0, λ i m.
-     (ap (λ b. b && open-left (t .allowed) m) (λ j. is-row (e j) (w j) m)
+left-keeps s t f c k (Ok x) e w h = (
+  h .0,
+  λ i m.
+      (ap (λ b. b && open-left (t .allowed) m) (λ j. is-row (e j) (w j) m)
       ∙ ap (λ T. is-row (numbers-of s) (width-of s) m && T m) (h .1)
-      ∙ sym (and-assoc (is-row (numbers-of s) (width-of s) m) (open-left (s .allowed) m) (holds c (getD m f 0) k))) i)
+      ∙ sym (and-assoc (is-row (numbers-of s) (width-of s) m) (open-left (s .allowed) m)
+      (holds c (getD m f 0) k))) i,
+)
 left-keeps s t f c k (Err x) e w h = (h .0, h .1, λ i m. is-row (e i) (w i) m && h .2 i m)
 
 -- Emptiness and values
@@ -130,10 +138,13 @@ module _ (s : RegisterStore) where
   unfolding both
   row-left i h e = and-from _ _ (row-is-row (numbers-of s) n i h) e
 
-  pub some-left : (i : ℕ) → i < count → open-left (s .allowed) (row i) ≡ true → some n (register-left s) ≡ true
-  some-left i h e = let t = row-left i h e in some-complete n (register-left s) (row i) (left-of s (row i) t) t
+  pub some-left : (i : ℕ) → i < count → open-left (s .allowed) (row i) ≡ true
+      → some n (register-left s) ≡ true
+  some-left i h e = let t = row-left i h e in
+      some-complete n (register-left s) (row i) (left-of s (row i) t) t
 
-  pub none-left : ((i : ℕ) → i < count → open-left (s .allowed) (row i) ≡ false) → some n (register-left s) ≡ false
+  pub none-left : ((i : ℕ) → i < count → open-left (s .allowed) (row i) ≡ false)
+      → some n (register-left s) ≡ false
   none-left h =
       empty-some n (register-left s) (λ m t.
       let w = left-row m t in
@@ -147,7 +158,8 @@ module _ (s : RegisterStore) where
   unfolding seen-in any-below
   seen-none f v = refl
 
-  seen-more : (f i v : ℕ) → seen-in f (i + 1) v ≡ ((open-left (s .allowed) (row i) && eqb (getD (row i) f 0) v) || seen-in f i v)
+  seen-more : (f i v : ℕ)
+      → seen-in f (i + 1) v ≡ ((open-left (s .allowed) (row i) && eqb (getD (row i) f 0) v) || seen-in f i v)
   unfolding seen-in any-below
   seen-more f i v = rw add-one
 
@@ -159,15 +171,19 @@ module _ (s : RegisterStore) where
       let p : ℕ → Bool = λ i. open-left (s .allowed) (row i) && eqb (getD (row i) f 0) v in
       let d = any-below-decides p count in
       let go : takes n S f v ≡ true → any-below p count ≡ true = λ t.
-          let w = takes-sound n S f v t in
-          let r = left-row (w .0) (w .2) in
-          d .1 (r .0, r .1, and-from _ _ (subst (λ z. open-left (s .allowed) z ≡ true) (r .2) (r .3))
-                                         (eq-eqb _ _ (ap (λ z. getD z f 0) (sym (r .2)) ∙ w .3))) in
+      let w = takes-sound n S f v t in
+      let r = left-row (w .0) (w .2) in
+      d .1 (
+        r .0,
+        r .1,
+        and-from _ _ (subst (λ z. open-left (s .allowed) z ≡ true) (r .2) (r .3))
+            (eq-eqb _ _ (ap (λ z. getD z f 0) (sym (r .2)) ∙ w .3)),
+      ) in
       let back : any-below p count ≡ true → takes n S f v ≡ true = λ t.
-          let w = d .0 t in
-          let q = and-parts (open-left (s .allowed) (row (w .0))) (eqb (getD (row (w .0)) f 0) v) (w .2) in
-          let e = row-left (w .0) (w .1) (q .0) in
-          takes-complete n S f v (row (w .0)) (left-of s (row (w .0)) e) e (eqb-true _ _ (q .1)) in
+      let w = d .0 t in
+      let q = and-parts (open-left (s .allowed) (row (w .0))) (eqb (getD (row (w .0)) f 0) v) (w .2) in
+      let e = row-left (w .0) (w .1) (q .0) in
+      takes-complete n S f v (row (w .0)) (left-of s (row (w .0)) e) e (eqb-true _ _ (q .1)) in
       same-from-decides {P = takes n S f v ≡ true} _ _ ((λ e. e), (λ e. e)) (back, go)
 
   pub seen-values : (f : ℕ) (r : Row) → f < n → ((v : ℕ) → has r v ≡ seen-in f count v)
@@ -183,13 +199,14 @@ module _ (s : RegisterStore) where
       let x = getD (row i) f 0 in
       let long = row-length (numbers-of s) n i (row-fits (length (numbers-of s)) n i l) in
       let small : x < 1024 = all-getD (λ z. z < 1024) (row i) f 0 (omega (arith, long))
-          (marks-in-of n (s .allowed .rows) (row i) o .1) in
+      (marks-in-of n (s .allowed .rows) (row i) o .1) in
       let test : (ltb v 1024 && eqb x v) ≡ (open-left (s .allowed) (row i) && eqb x v) =
-          ⊎-elim
-          (λ t. ap (λ b. b && eqb x v) (lt-ltb v 1024 t ∙ sym o))
-          (λ t. and-left _ _ (le-ltb v 1024 t)
-                ∙ sym (and-right (open-left (s .allowed) (row i)) (eqb x v) (ne-eqb x v (λ e. omega (arith, small, e)))))
-          (cases-lt v 1024) in
+      ⊎-elim
+      (λ t. ap (λ b. b && eqb x v) (lt-ltb v 1024 t ∙ sym o))
+      (λ t. and-left _ _ (le-ltb v 1024 t)
+      ∙ sym (and-right (open-left (s .allowed) (row i)) (eqb x v)
+      (ne-eqb x v (λ e. omega (arith, small, e)))))
+      (cases-lt v 1024) in
       add v ∙ ap (λ b. b || (ltb v 1024 && eqb x v)) (before v) ∙ ap (λ b. seen-in f i v || b) test
       ∙ or-comm (seen-in f i v) (open-left (s .allowed) (row i) && eqb x v) ∙ sym (seen-more f i v)
 

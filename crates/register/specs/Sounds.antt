@@ -12,7 +12,8 @@ use Rattle.register.specs.Registers.{is-row, both, numbers-of, width-of, regis
 pub start-of : (s : RegisterStore) → MarksOf (width-of s) (register-start s)
 unfolding both
 start-of s m e =
-    every-has (width-of s) m .0 (and-parts (is-row (numbers-of s) (width-of s) m) (every-mark (width-of s) m) e .1)
+    every-has (width-of s) m .0
+    (and-parts (is-row (numbers-of s) (width-of s) m) (every-mark (width-of s) m) e .1)
 
 pub left-of : (s : RegisterStore) → MarksOf (width-of s) (register-left s)
 unfolding both

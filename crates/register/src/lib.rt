@@ -30,7 +30,10 @@ impl<'a> RegisterStore<'a> {
         ensures starts { λ r. ⌜ HasRows (now (sheet .entry) .«field_count») (now (register .entry)) (register-start r) ⌝ }
         ensures left { λ r. ⌜ register-left r ≡ register-start r ⌝ }
     {
-        RegisterStore { register, allowed: OpenStore::new(sheet) }
+        RegisterStore {
+            register,
+            allowed: OpenStore::new(sheet),
+        }
     }
 }
 

@@ -20,7 +20,8 @@ tells-empty n S r sh e =
     (((λ t. none-empty n S sh (not-true _ (sym e ∙ t))), (λ h. e ∙ ap not (empty-some n S h))), e)
 
 -- a keep of a field of the store and a number up to 1,023 is not refused
-pub keeps-inside : {X : Type 0} (n : ℕ) (S after : Marks) (f : ℕ) (c : Comparison) (k : ℕ) (r : Result X Refusal)
+pub keeps-inside : {X : Type 0} (n : ℕ) (S after : Marks) (f : ℕ) (c : Comparison) (k : ℕ)
+    (r : Result X Refusal)
     → Inside n f k → Keeps n S after f c k r → after ≡ kept S f c k
 keeps-inside n S after f c k (Ok x) i h = h .1
 keeps-inside n S after f c k (Err e) i h = absurd (h .0 i)

@@ -50,7 +50,8 @@ open-start s = every-mark (s .width)
 abbrev pub open-left : OpenStore Row → Marks
 open-left s = marks-in (s .width) (s .rows)
 
--- the row, if any, has just the numbers that the field takes in S; there is none where the field takes no number
+-- the row, if any, has just the numbers that the field takes in S; there is none where the field takes no
+-- number
 abbrev pub InRow : (n : ℕ) (S : Marks) (f : ℕ) → Option (RefT Row) → Type 0
 InRow n S f (Some r) = HasTaken n S f (now r)
 InRow n S f None = Taken n S f (values n S f) × (values n S f ≡ [])

@@ -39,10 +39,8 @@ pub trait Store {
     // Removes exactly the marks whose field fails the comparison with the number.
     fn keep(&mut self, field: usize, sign: Comparison, number: u16) -> Result<(), Refusal>
         ensures same { λ _. ⌜ Stays width starting (now (self .entry)) (now (self .exit)) ⌝ }
-        ensures left {
-            λ r. ⌜ Keeps (width (now (self .entry))) (current (now (self .entry))) (current (now (self .exit)))
-                field sign number r ⌝
-        };
+        ensures left { λ r. ⌜ Keeps (width (now (self .entry))) (current (now (self .entry))) (current (now (self .exit)))
+            field sign number r ⌝ };
 
     // Whether the current set has no mark.
     fn is_empty(&self) -> bool

@@ -29,7 +29,10 @@ impl OpenStore {
         ensures starts { λ r. ⌜ HasEvery width (open-start r) ⌝ }
         ensures left { λ r. ⌜ open-left r ≡ open-start r ⌝ }
     {
-        OpenStore { width, rows: [Row::full(); 8] }
+        OpenStore {
+            width,
+            rows: [Row::full(); 8],
+        }
     }
 
     // Whether the current set has this mark.

@@ -51,11 +51,13 @@ or-swap true false c = refl
 or-swap false true c = refl
 or-swap false false c = refl
 
-holds-push : (ps : List Pair) (p : Pair) (m : List ℕ) → holds-one (ps ++ p ∷ []) m ≡ (holds-pair p m || holds-one ps m)
+holds-push : (ps : List Pair) (p : Pair) (m : List ℕ)
+    → holds-one (ps ++ p ∷ []) m ≡ (holds-pair p m || holds-one ps m)
 unfolding holds-one
 holds-push [] p m = refl
 holds-push (q ∷ ps) p m =
-    ap (λ b. holds-pair q m || b) (holds-push ps p m) ∙ or-swap (holds-pair q m) (holds-pair p m) (holds-one ps m)
+    ap (λ b. holds-pair q m || b) (holds-push ps p m)
+    ∙ or-swap (holds-pair q m) (holds-pair p m) (holds-one ps m)
 
 -- one pair more, at a mark
 without-pushed : (S : Marks) (ps : List Pair) (p : Pair) (m : List ℕ)
@@ -65,7 +67,8 @@ without-pushed S ps p m =
     not-or (holds-one ps m) (holds-pair p m) (S m) ∙ ap (λ b. S m && not b) (sym (holds-push ps p m))
 
 -- a mark of n fields holds only pairs inside
-held-inside : (n : ℕ) (p : Pair) (m : List ℕ) → Shaped n m → holds-pair p m ≡ true → Inside n (p .field) (p .number)
+held-inside : (n : ℕ) (p : Pair) (m : List ℕ) → Shaped n m → holds-pair p m ≡ true
+    → Inside n (p .field) (p .number)
 unfolding holds-pair
 held-inside n p m h t =
     let parts = and-parts (ltb (p .field) (length m)) (eqb (getD m (p .field) 0) (p .number)) t in
@@ -78,9 +81,11 @@ held-equals : (n : ℕ) (p : Pair) (m : List ℕ) → Shaped n m → p .field < 
     → eqb (getD m (p .field) 0) (p .number) ≡ holds-pair p m
 unfolding holds-pair
 held-equals n p m h l =
-    ap (λ b. b && eqb (getD m (p .field) 0) (p .number)) (sym (lt-ltb (p .field) (length m) (omega (arith, h .0, l))))
+    ap (λ b. b && eqb (getD m (p .field) 0) (p .number))
+    (sym (lt-ltb (p .field) (length m) (omega (arith, h .0, l))))
 
-absent : (S : Marks) (ps : List Pair) (m : List ℕ) (a b : Bool) → S m ≡ false → (without ps S m && a) ≡ (without ps S m && b)
+absent : (S : Marks) (ps : List Pair) (m : List ℕ) (a b : Bool) → S m ≡ false
+    → (without ps S m && a) ≡ (without ps S m && b)
 unfolding without
 absent S ps m a b z = rw z refl
 
@@ -89,21 +94,23 @@ pub without-more : {X : Type 0} (n : ℕ) (S after : Marks) (ps : List Pair) (p 
     → MarksOf n S → Keeps n (without ps S) after (p .field) Differ (p .number) r
     → after ≡ without (ps ++ p ∷ []) S
 without-more n S after ps p (Ok x) shaped keep =
-    let at : (m : List ℕ) → kept (without ps S) (p .field) Differ (p .number) m ≡ without (ps ++ p ∷ []) S m = λ m.
-        ⊎-elim
-        (λ t. ap (λ b. without ps S m && not b) (held-equals n p m (shaped m t) (keep .0 .0)))
-        (absent S ps m (not (eqb (getD m (p .field) 0) (p .number))) (not (holds-pair p m)))
-        (cases-bool (S m))
-        ∙ without-pushed S ps p m in
+    let at : (m : List ℕ) → kept (without ps S) (p .field) Differ (p .number) m ≡ without
+    (ps ++ p ∷ []) S m = λ m.
+    ⊎-elim
+    (λ t. ap (λ b. without ps S m && not b) (held-equals n p m (shaped m t) (keep .0 .0)))
+    (absent S ps m (not (eqb (getD m (p .field) 0) (p .number))) (not (holds-pair p m)))
+    (cases-bool (S m))
+    ∙ without-pushed S ps p m in
     keep .1 ∙ (λ i m. at m i)
 without-more n S after ps p (Err x) shaped keep =
     let free : (m : List ℕ) → S m ≡ true → holds-pair p m ≡ false = λ m t.
-        ⊎-elim (λ y. absurd (keep .0 (held-inside n p m (shaped m t) y))) (λ z. z) (cases-bool (holds-pair p m)) in
+    ⊎-elim (λ y. absurd (keep .0 (held-inside n p m (shaped m t) y))) (λ z. z)
+    (cases-bool (holds-pair p m)) in
     let at : (m : List ℕ) → without ps S m ≡ without (ps ++ p ∷ []) S m = λ m.
-        sym (and-true (without ps S m))
-        ∙ ⊎-elim
-          (λ t. ap (λ b. without ps S m && not b) (sym (free m t)))
-          (absent S ps m true (not (holds-pair p m)))
-          (cases-bool (S m))
-        ∙ without-pushed S ps p m in
+    sym (and-true (without ps S m))
+    ∙ ⊎-elim
+    (λ t. ap (λ b. without ps S m && not b) (sym (free m t)))
+    (absent S ps m true (not (holds-pair p m)))
+    (cases-bool (S m))
+    ∙ without-pushed S ps p m in
     keep .2 ∙ (λ i m. at m i)

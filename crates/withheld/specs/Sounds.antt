@@ -16,10 +16,10 @@ without-in ps S m e = and-parts (S m) (not (holds-one ps m)) e .0
 
 pub layer-sound : {X : Type 0} {width : X → ℕ} {starting current : X → Marks} → Sound width starting current
     → Sound {X = Withheld X}
-      (λ w. width (w .lower))
-      (λ w. without (pairs-of w) (starting (w .lower)))
-      (λ w. current (w .lower))
+    (λ w. width (w .lower))
+    (λ w. without (pairs-of w) (starting (w .lower)))
+    (λ w. current (w .lower))
 layer-sound {starting = starting} h = record {
   started = λ w m e. h .started (w .lower) m (without-in (pairs-of w) (starting (w .lower)) m e);
-  left = λ w. h .left (w .lower)
+  left = λ w. h .left (w .lower);
 }

@@ -59,4 +59,4 @@ module _ {X : Type 0} (width : X → ℕ) (starting current : X → Marks) where
   Withholds before after f k (Err e) =
       (after ≡ before)
       × (((Inside (width (before .lower)) f k → ⊥) × (number e ≡ 20))
-         ⊎ (Inside (width (before .lower)) f k × (length (pairs-of before) ≡ 32) × (number e ≡ 21)))
+      ⊎ (Inside (width (before .lower)) f k × (length (pairs-of before) ≡ 32) × (number e ≡ 21)))

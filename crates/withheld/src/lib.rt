@@ -2,3 +2,4 @@
 pub mod layer;
 pub mod layered;
 pub mod pair;
+pub mod setting;

@@ -10,6 +10,7 @@ returns c =
     let e = c .keep .ensures in
     record {
       same = (e .same .0, ap (λ n. both (is-row (numbers-of s) n) (every-mark n)) (e .same .0));
-      left = left-keeps s (record { register = s .register; allowed = c .keep .last .self }) (c .args .field) (c .args .sign) (c .args .number)
-        (c .keep .result) refl (e .same .0) (e .left)
+      left = left-keeps s (record { register = s .register; allowed = c .keep .last .self }) (c .args .field)
+          (c .args .sign) (c .args .number)
+          (c .keep .result) refl (e .same .0) (e .left);
     }

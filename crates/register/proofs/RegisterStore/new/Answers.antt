@@ -12,6 +12,6 @@ returns c =
     record {
       fields = made .fields;
       starts = subst (λ z. HasRows n register (both (is-row register z) (every-mark z))) (sym (made .fields))
-        (rows-are-marks register n (c .args .sheet .now .«some_fields» .0));
-      left = ap (both (is-row register (c .new .result .width))) (made .left)
+          (rows-are-marks register n (c .args .sheet .now .«some_fields» .0));
+      left = ap (both (is-row register (c .new .result .width))) (made .left);
     }

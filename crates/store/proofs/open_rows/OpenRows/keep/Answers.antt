@@ -18,6 +18,10 @@ returns c =
     let l : k ≤ 1023 = omega (arith, c .if-number-gt-GREATEST .left) in
     record {
       same = (refl, refl);
-      left = ((h, l), marks-keep (s .width) (s .rows) f (c .args .sign) k (c .narrow .last .self) h (omega (arith, lent .0, s .few .1))
-        (λ v. c .narrow .ensures v ∙ ap (λ r. has r v && holds (c .args .sign) v k) (lent .1 no-row)))
+      left = (
+        (h, l),
+        marks-keep (s .width) (s .rows) f (c .args .sign) k (c .narrow .last .self) h
+            (omega (arith, lent .0, s .few .1))
+            (λ v. c .narrow .ensures v ∙ ap (λ r. has r v && holds (c .args .sign) v k) (lent .1 no-row)),
+      );
     }

@@ -15,7 +15,8 @@ loop-i-again c = below-more _ _ (c .loop-i .inv) (sym (c .if-not-holds .ensures 
 pub returns-then-not-holds : need.returns-then-not-holds
 returns-then-not-holds c =
     let s = c .args .self .now in
-    sym (number-not-in (s .width) (s .rows) (c .args .mark .now) (c .loop-i .i) (c .loop-i-test .taken) (sym (c .if-not-holds .ensures tt)))
+    sym (number-not-in (s .width) (s .rows) (c .args .mark .now) (c .loop-i .i) (c .loop-i-test .taken)
+    (sym (c .if-not-holds .ensures tt)))
 
 pub returns : need.returns
 returns c =

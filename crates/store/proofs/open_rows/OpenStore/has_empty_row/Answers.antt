@@ -15,10 +15,12 @@ pub returns-then-not-any : need.returns-then-not-any
 returns-then-not-any c =
     let s = c .args .self .now in
     tells-empty (s .width) (open-left s) _ (marks-in-of (s .width) (s .rows))
-    (sym (ap not (marks-none (s .width) (s .rows) (c .loop-i .i) (c .loop-i-test .taken) (sym (c .if-not-any .ensures tt)))))
+    (sym (ap not (marks-none (s .width) (s .rows) (c .loop-i .i) (c .loop-i-test .taken)
+    (sym (c .if-not-any .ensures tt)))))
 
 pub returns : need.returns
 returns c =
     let s = c .args .self .now in
     tells-empty (s .width) (open-left s) _ (marks-in-of (s .width) (s .rows))
-    (sym (ap not (marks-some (s .width) (s .rows) (λ k l. c .loop-i .inv k (omega (arith, c .loop-i-test .left))))))
+    (sym (ap not (marks-some (s .width) (s .rows)
+    (λ k l. c .loop-i .inv k (omega (arith, c .loop-i-test .left))))))

@@ -19,9 +19,10 @@ returns-then-field-self c =
     let S = open-left s in
     let f = c .args .field in
     let none : values n S f ≡ [] = elim (c .then-field-self .came) [
-          then-field-self·by·then-field-self w ↦ values-outside n S f (w .if-field-self .taken)
-        | then-field-self·by·else-field-self·then-has-empty-row w ↦ values-empty n S f (not-true _ (sym (w .if-has-empty-row .ensures tt .1)))
-        ] in
+      | then-field-self·by·then-field-self w ↦ values-outside n S f (w .if-field-self .taken)
+      | then-field-self·by·else-field-self·then-has-empty-row w ↦ values-empty n S f
+          (not-true _ (sym (w .if-has-empty-row .ensures tt .1)))
+    ] in
     (values-taken n S f (marks-in-of n (s .rows)), none)
 
 pub returns : need.returns

@@ -15,5 +15,6 @@ returns c =
       fields = refl;
       starts = every-has (c .args .width);
       left = marks-full (c .args .width) (replicate 8 r) few
-        (λ i h v. ap (λ z. has z v) (getD-replicate 8 i r no-row (omega (arith, few, h))) ∙ c .full .ensures v)
+          (λ i h v. ap (λ z. has z v) (getD-replicate 8 i r no-row (omega (arith, few, h)))
+          ∙ c .full .ensures v);
     }

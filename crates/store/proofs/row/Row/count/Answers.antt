@@ -17,6 +17,18 @@ pub loop-v-again : need.loop-v-again
 loop-v-again c =
     let r = c .args .self .now in
     elim (c .if-self-v .came) [
-      then-self-v w ↦ omega (arith, w .found-is, c .loop-v .inv, length-yes (has r) (c .loop-v .v) (row-yes r (c .loop-v .v) (c .loop-v-test .taken) (w .if-self-v .taken)))
-    | else-self-v w ↦ omega (arith, w .found-is, c .loop-v .inv, length-no (has r) (c .loop-v .v) (row-no r (c .loop-v .v) (w .if-self-v .left)))
+      | then-self-v w ↦ omega (
+        arith,
+        w .found-is,
+        c .loop-v .inv,
+        length-yes (has r) (c .loop-v .v)
+            (row-yes r (c .loop-v .v) (c .loop-v-test .taken) (w .if-self-v .taken)),
+      )
+      | else-self-v w ↦ omega (
+        arith,
+        w .found-is,
+        c .loop-v .inv,
+        length-no (has r) (c .loop-v .v)
+            (row-no r (c .loop-v .v) (w .if-self-v .left)),
+      )
     ]

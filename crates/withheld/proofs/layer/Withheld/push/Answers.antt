@@ -9,4 +9,7 @@ pub returns : need.returns
 returns g c =
     let s = c .args .self .now in
     let room : s .count < 32 = subst (λ n. n < 32) (count-is s) (c .pre) in
-    record { pairs = take-more-set (s .pairs) (s .count) (c .args .pair) (omega (arith, s .long)); lower = refl }
+    record {
+      pairs = take-more-set (s .pairs) (s .count) (c .args .pair) (omega (arith, s .long));
+      lower = refl;
+    }

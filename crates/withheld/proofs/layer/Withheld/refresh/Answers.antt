@@ -13,8 +13,14 @@ use Rattle.withheld.proofs.layer.Withheld.refresh.Needs as need
 
 pub loop-i-holds : need.loop-i-holds
 loop-i-holds g c =
-    let e = c .restart .ensures in
-    (refl, refl, refl, refl, e .left ∙ sym (e .same .1) ∙ without-none (g .S·Store .starting (c .restart .last .self)))
+    let e = c .restart .ensures in (
+      refl,
+      refl,
+      refl,
+      refl,
+      e .left ∙ sym (e .same .1)
+          ∙ without-none (g .S·Store .starting (c .restart .last .self)),
+    )
 
 pub loop-i-again : need.loop-i-again
 loop-i-again g c =
@@ -31,10 +37,17 @@ loop-i-again g c =
     let l : i < length pairs = omega (arith, ap length (inv .0), long, few, c .loop-i-test .taken) in
     let start = st .starting lower in
     let after = st .current (c .keep .last .self) in
-    let left = without-more (st .width lower) start after (take i pairs) p (c .keep .result) (st .sound .started lower)
-        (subst (λ (S : Marks). Keeps (st .width lower) S after (p .field) Differ (p .number) (c .keep .result)) (inv .4) (e .left)) in
-    (inv .0, inv .1, e .same .0 ∙ inv .2, e .same .1 ∙ inv .3,
-     left ∙ ap (λ ps. without ps start) (sym (take-more pairs i none l)) ∙ ap (without (take (i + 1) pairs)) (sym (e .same .1)))
+    let left = without-more (st .width lower) start after (take i pairs) p (c .keep .result)
+    (st .sound .started lower)
+    (subst (λ (S : Marks). Keeps (st .width lower) S after (p .field) Differ (p .number) (c .keep .result))
+    (inv .4) (e .left)) in (
+      inv .0,
+      inv .1,
+      e .same .0 ∙ inv .2,
+      e .same .1 ∙ inv .3,
+      left ∙ ap (λ ps. without ps start) (sym (take-more pairs i none l))
+          ∙ ap (without (take (i + 1) pairs)) (sym (e .same .1)),
+    )
 
 pub returns : need.returns
 returns g c =
@@ -49,7 +62,7 @@ returns g c =
       fields = inv .2 ∙ r .0;
       start = inv .3 ∙ r .1;
       left = inv .4
-        ∙ ap (λ n. without (take n (t .pairs)) (st .starting (t .lower))) e
-        ∙ ap (λ ps. without (take (s .count) ps) (st .starting (t .lower))) (inv .0)
-        ∙ ap (without (take (s .count) (s .pairs))) (inv .3 ∙ r .1)
+          ∙ ap (λ n. without (take n (t .pairs)) (st .starting (t .lower))) e
+          ∙ ap (λ ps. without (take (s .count) ps) (st .starting (t .lower))) (inv .0)
+          ∙ ap (without (take (s .count) (s .pairs))) (inv .3 ∙ r .1);
     }
