@@ -3,3 +3,4 @@ pub mod Faults
 pub mod Places
 pub mod Verdict
 pub mod Lookups
+pub mod Numbering

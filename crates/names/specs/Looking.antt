@@ -1,26 +1,36 @@
 -- Words of this crate's private contracts: what was found among some lines, and the first fault so far.
 use mathlib.Core.Path.{_≡_}
 use mathlib.Core.Bool.{Bool, true, false}
-use mathlib.Core.List.{List, [], _∷_, map}
+use mathlib.Core.List.{List, [], _∷_, _++_, map}
 use mathlib.Core.Logic.{_⊎_}
 use Prim.Native.Nat.{ℕ, _<_, _≤_}
-use lib.ListN.{take}
+use lib.ListN.{length, take}
 use Rattle.std.specs.declared.option.Option.{Option}
 use Rattle.std.specs.declared.option.Option.the-variants.{Some, None}
 use Rattle.std.specs.declared.result.Result.{Result}
 use Rattle.std.specs.declared.result.Result.the-variants.{Ok, Err}
-use Rattle.formula.specs.declared.Comparison.the-variants.{Equal}
+use Rattle.formula.specs.declared.Comparison.{Comparison}
+use Rattle.formula.specs.declared.Join.{Join}
+use Rattle.formula.specs.Trees as tree
 use Rattle.refusal.specs.declared.Fault.{Fault}
 use Rattle.refusal.specs.Table.{number}
 use Rattle.grammar.specs.declared.table.Word.{Word as WordEntry}
-use Rattle.grammar.specs.declared.table.FieldLine.{FieldLine}
+use Rattle.grammar.specs.declared.table.Term.{Term as TermEntry}
+use Rattle.grammar.specs.declared.table.Weights.{Weights as WeightsEntry}
+use Rattle.grammar.specs.declared.table.Node.{Node as NodeEntry}
+use Rattle.grammar.specs.declared.table.Node.the-variants.{Compared, Called, Negated, Picked, Joined}
 use Rattle.grammar.specs.declared.table.RuleLine.{RuleLine}
 use Rattle.grammar.specs.declared.table.Table.{Table}
-use Rattle.grammar.specs.Syntax.{Word, constant, Formula, compared, Rule, rule-line}
-use Rattle.grammar.specs.Tables.{word-of, params-of}
-use Rattle.names.specs.Lists.{Stands}
-use Rattle.names.specs.Names.{spelling}
-use Rattle.names.specs.Faults.{First, NoLater, Taken}
+use Rattle.grammar.specs.Syntax.{Word, num, Term, Weights, Formula, compared, called, negated, picked, joined, Field, Rule, rule-line}
+use Rattle.grammar.specs.Tables.{word-of, term-of, weights-of, params-of, place-of, fields-of, Rising}
+use Rattle.sheet.specs.declared.node.Name.{Name}
+use Rattle.sheet.specs.declared.node.Term.{Term as SheetTerm}
+use Rattle.sheet.specs.declared.node.Node.{Node}
+use Rattle.sheet.specs.declared.node.Node.the-variants.{Compare, Call, Not, Pick, Join as JoinNode}
+use Rattle.sheet.specs.Table.{name-of as number-name, term-of as number-term}
+use Rattle.names.specs.Lists.{Stands, In, Each}
+use Rattle.names.specs.Names.{spelling, Means, Calls, TermIs, left-weight, right-weight}
+use Rattle.names.specs.Faults.{Use, term, call, weight, term-uses, terms-uses, weight-uses, UseFault, First, NoLater}
 
 -- a test that says whether P holds
 abbrev pub Tells : Type 0 → Bool → Type 0
@@ -40,21 +50,85 @@ SomeOf {A} P xs = (i : ℕ) × (x : A) × Stands A xs i x × P x
 abbrev pub Alike : List ℕ → WordEntry → WordEntry → Type 0
 Alike text v w = spelling (word-of text v) ≡ spelling (word-of text w)
 
--- a rule line declares the name w: as its own, or as a parameter's
-abbrev pub Declares : List ℕ → WordEntry → RuleLine → Type 0
-Declares text w l = Alike text (l .name) w ⊎ SomeOf (λ v. Alike text v w) (take (l .«param_count») (l .params))
+-- the first n of some names
+abbrev pub names-of : List ℕ → List WordEntry → ℕ → List Word
+names-of text ws n = map (word-of text) (take n ws)
 
--- a formula that stands for none
-abbrev pub no-formula : Formula
-no-formula = compared Equal (constant 0) (constant 0)
+-- the line l is that of the rule, its formula aside, and has at most 4 parameters
+abbrev pub IsHead : List ℕ → RuleLine → Rule → Type 0
+IsHead text l (rule-line p w ps f) =
+    (l .first ≡ p) × (word-of text (l .name) ≡ w) × (l .«param_count» ≡ length ps) × (params-of text l ≡ ps)
+    × (length ps ≤ 4)
 
--- a rule line without its formula
-abbrev pub head-of : List ℕ → RuleLine → Rule
-head-of text l = rule-line (l .first) (word-of text (l .name)) (params-of text l) no-formula
+-- the lines are those of the rules, their formulas aside
+abbrev pub Heads : List ℕ → List RuleLine → List Rule → Type 0
+Heads text ls rs = Each RuleLine Rule (IsHead text) ls rs
 
--- the rule lines below that number, without their formulas
-abbrev pub heads : List ℕ → Table → ℕ → List Rule
-heads text t below = map (head-of text) (take below (t .rules))
+-- what a formula uses itself, its parts aside
+abbrev pub own-uses : Formula → List Use
+own-uses (compared c t u) = term-uses t ++ term-uses u
+own-uses (called w ts) = call w (length ts) ∷ terms-uses ts
+own-uses (negated f) = []
+own-uses (picked w f) = term w ∷ []
+own-uses (joined j w f g) = weight-uses w
+
+-- a fault of one of some uses
+abbrev pub UsesFault : List Field → List Rule → List Word → List Use → (number place : ℕ) → Type 0
+UsesFault fs rs ps us n p = (u : Use) × In Use us u × UseFault fs rs ps u n p
+
+-- the place of a use
+abbrev pub use-place : Use → ℕ
+use-place (term w) = place-of w
+use-place (call w n) = place-of w
+use-place (weight (num v p)) = p
+
+-- the entry is that of the formula, its parts aside
+pub data IsEntry (text : List ℕ) : NodeEntry → Formula → Type 0 where
+  an-entry-compared :
+      {c : Comparison} {t u : TermEntry} {x y : Term}
+      → term-of text t ≡ x
+      → term-of text u ≡ y
+      → IsEntry text (Compared c t u) (compared c x y)
+  an-entry-called :
+      {n : ℕ} {v : WordEntry} {w : Word} {ts : List TermEntry} {xs : List Term}
+      → word-of text v ≡ w
+      → n ≡ length xs
+      → map (term-of text) (take n ts) ≡ take 4 xs
+      → IsEntry text (Called v n ts) (called w xs)
+  an-entry-negated : {a : ℕ} {f : Formula} → IsEntry text (Negated a) (negated f)
+  an-entry-picked :
+      {v : WordEntry} {w : Word} {a : ℕ} {f : Formula}
+      → word-of text v ≡ w
+      → IsEntry text (Picked v a) (picked w f)
+  an-entry-joined :
+      {j : Join} {v : WeightsEntry} {w : Weights} {a b : ℕ} {f g : Formula}
+      → weights-of v ≡ w
+      → IsEntry text (Joined j v a b) (joined j w f g)
+
+-- an entry with its names replaced by numbers: parts keep their numbers
+pub data Numbered (text : List ℕ) (fs : List Field) (rs : List Rule) (ps : List Word) : NodeEntry → Node → Type 0 where
+  numbered-compared :
+      {c : Comparison} {t u : TermEntry} {x y : SheetTerm}
+      → TermIs fs ps (term-of text t) (number-term x)
+      → TermIs fs ps (term-of text u) (number-term y)
+      → Numbered text fs rs ps (Compared c t u) (Compare x c y)
+  numbered-called :
+      {n k : ℕ} {v : WordEntry} {ts : List TermEntry} {xs : List SheetTerm} {qs : List Word}
+      → Calls rs (word-of text v) k qs
+      → length qs ≡ n
+      → Each Term tree.Term (TermIs fs ps) (map (term-of text) (take n ts)) (map number-term (take n xs))
+      → length xs ≡ 4
+      → Numbered text fs rs ps (Called v n ts) (Call k n xs)
+  numbered-negated : {a : ℕ} → Numbered text fs rs ps (Negated a) (Not a)
+  numbered-picked :
+      {v : WordEntry} {b : Name} {a : ℕ}
+      → Means fs ps (word-of text v) (number-name b)
+      → Numbered text fs rs ps (Picked v a) (Pick b a)
+  numbered-joined :
+      {j : Join} {v : WeightsEntry} {a b x y : ℕ}
+      → left-weight (weights-of v) ≡ x
+      → right-weight (weights-of v) ≡ y
+      → Numbered text fs rs ps (Joined j v a b) (JoinNode j x y a b)
 
 -- the first of the faults F, or none where there is none
 abbrev pub Best : (ℕ → ℕ → Type 0) → Option Fault → Type 0
@@ -73,3 +147,38 @@ Earlier f g = NoLater (number (f .refusal)) (f .place) (number (g .refusal)) (g 
 -- r is the one of f and g that comes first
 abbrev pub EarlierOf : Fault → Fault → Fault → Type 0
 EarlierOf f g r = ((r ≡ f) × Earlier f g) ⊎ ((r ≡ g) × Earlier g f)
+
+-- What is settled of a name, a call, a term and an entry: the first fault, or what it comes to
+
+-- a name in a line with the first count of the parameters ws
+abbrev pub NameSettled : List ℕ → Table → List WordEntry → (count : ℕ) → WordEntry → Result Name Fault → Type 0
+NameSettled text t ws count w r =
+    (rs : List Rule)
+    → Settles (UseFault (fields-of text t) rs (names-of text ws count) (term (word-of text w)))
+    (λ x. Means (fields-of text t) (names-of text ws count) (word-of text w) (number-name x)) r
+
+-- a call of the name w with n terms, where the rule lines ls may be called
+abbrev pub CallSettled : List ℕ → List RuleLine → WordEntry → (n : ℕ) → Result ℕ Fault → Type 0
+CallSettled text ls w n r =
+    (fs : List Field) (rs : List Rule) (ps : List Word)
+    → Heads text ls rs
+    → Settles (UseFault fs rs ps (call (word-of text w) n))
+    (λ k. (qs : List Word) × Calls rs (word-of text w) k qs × (length qs ≡ n) × (n ≤ 4)) r
+
+-- a term in a line with the first count of the parameters ws
+abbrev pub TermSettled : List ℕ → Table → List WordEntry → (count : ℕ) → TermEntry → Result SheetTerm Fault → Type 0
+TermSettled text t ws count x r =
+    (rs : List Rule)
+    → Settles (UsesFault (fields-of text t) rs (names-of text ws count) (term-uses (term-of text x)))
+    (λ y. TermIs (fields-of text t) (names-of text ws count) (term-of text x) (number-term y)) r
+
+-- an entry in a line with the first count of the parameters ws, which may call the rules below that number
+abbrev pub EntrySettled :
+    List ℕ → Table → List WordEntry → (count below : ℕ) → NodeEntry → Result Node Fault → Type 0
+EntrySettled text t ws count below x r =
+    (rs : List Rule) (f : Formula)
+    → Heads text (take below (t .rules)) rs
+    → IsEntry text x f
+    → Rising (map use-place (own-uses f))
+    → Settles (UsesFault (fields-of text t) rs (names-of text ws count) (own-uses f))
+    (Numbered text (fields-of text t) rs (names-of text ws count) x) r

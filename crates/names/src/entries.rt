@@ -1,0 +1,77 @@
+// The entries of a line's formula with their names replaced by numbers, or the first fault among them.
+use crate::lookup::find_field;
+use crate::lookup::find_param;
+use crate::lookup::find_rule;
+use crate::lookup::has_other_count;
+use grammar::table::Node as WrittenNode;
+use grammar::table::Number;
+use grammar::table::RuleLine;
+use grammar::table::Table;
+use grammar::table::Term as WrittenTerm;
+use grammar::table::Weights;
+use grammar::table::Word;
+use refusal::Fault;
+use refusal::Refusal;
+use sheet::node::Name;
+use sheet::node::Node;
+use sheet::node::Shift;
+use sheet::node::Term;
+ghost use Prim.Native.Nat.{_<_};
+ghost use lib.ListN.{take};
+ghost use Rattle.std.specs.Vec.{made};
+ghost use Rattle.names.specs.Looking.{NameSettled, CallSettled, TermSettled, EntrySettled, EarlierOf};
+
+// The earlier of two faults: by place, then by number.
+pub(crate) fn earlier(a: Fault, b: Fault) -> Fault
+    ensures { λ r. ⌜ EarlierOf a b r ⌝ }
+{
+    if a.place < b.place || (a.place == b.place && a.refusal.number() <= b.refusal.number()) { a } else { b }
+}
+
+// The field or parameter of that name, where the first `count` parameters count.
+fn number_name(text: &[u8], table: &Table, params: &[Word; 4], count: usize, name: Word) -> Result<Name, Fault>
+    ensures { λ r. ⌜ NameSettled (now (text .entry)) (now (table .entry)) (now (params .entry)) count name r ⌝ }
+{
+    if let Some(i) = find_field(text, &table.fields, table.field_count, name) {
+        return Ok(Name::Field(i as u8));
+    }
+    if let Some(i) = find_param(text, params, count, name) {
+        return Ok(Name::Param(i as u8));
+    }
+    Err(Fault { refusal: Refusal::NameUnknown, place: name.place })
+}
+
+// The number of the rule below `below` that is called by that name with so many terms.
+fn number_call(text: &[u8], rules: &[RuleLine; 16], below: usize, name: Word, terms: usize) -> Result<usize, Fault>
+    ensures settled { λ r. ⌜ CallSettled (now (text .entry)) (take below (now (rules .entry))) name terms r ⌝ }
+    ensures within { λ r. ⌜ made r (λ k. k < 16) ⌝ }
+{
+    let Some(k) = find_rule(text, rules, below, name) else {
+        return Err(Fault { refusal: Refusal::NameUnknown, place: name.place });
+    };
+    if has_other_count(text, rules, below, name, terms) {
+        return Err(Fault { refusal: Refusal::WrongTermCount, place: name.place });
+    }
+    Ok(k)
+}
+
+// A term with its name replaced by a number.
+fn number_term(text: &[u8], table: &Table, params: &[Word; 4], count: usize, term: WrittenTerm) -> Result<Term, Fault>
+    ensures { λ r. ⌜ TermSettled (now (text .entry)) (now (table .entry)) (now (params .entry)) count term r ⌝ }
+{
+    match term {
+        WrittenTerm::Constant(n) => Ok(Term::Number(n)),
+        WrittenTerm::Bare(w) => {
+            let name = number_name(text, table, params, count, w)?;
+            Ok(Term::Bare(name))
+        }
+        WrittenTerm::Raised(w, n) => {
+            let name = number_name(text, table, params, count, w)?;
+            Ok(Term::Moved(name, Shift::Up(n)))
+        }
+        WrittenTerm::Lowered(w, n) => {
+            let name = number_name(text, table, params, count, w)?;
+            Ok(Term::Moved(name, Shift::Down(n)))
+        }
+    }
+}
