@@ -4,3 +4,6 @@ pub mod Places
 pub mod Verdict
 pub mod Lookups
 pub mod Numbering
+pub mod Ordered
+pub mod Terms
+pub mod WeightsKept

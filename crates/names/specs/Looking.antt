@@ -172,6 +172,24 @@ TermSettled text t ws count x r =
     → Settles (UsesFault (fields-of text t) rs (names-of text ws count) (term-uses (term-of text x)))
     (λ y. TermIs (fields-of text t) (names-of text ws count) (term-of text x) (number-term y)) r
 
+-- the first n of four terms xs, in a line with the first count of the parameters ws
+abbrev pub TermsSettled :
+    List ℕ → Table → List WordEntry → (count : ℕ) → List TermEntry → (n : ℕ) → Result (List SheetTerm) Fault → Type 0
+TermsSettled text t ws count xs n r =
+    (rs : List Rule)
+    → Rising (map use-place (terms-uses (map (term-of text) (take n xs))))
+    → Settles (UsesFault (fields-of text t) rs (names-of text ws count) (terms-uses (map (term-of text) (take n xs))))
+    (λ ys. Each Term tree.Term (TermIs (fields-of text t) (names-of text ws count)) (map (term-of text) (take n xs))
+      (map number-term (take n ys)) × (length ys ≡ 4)) r
+
+-- the weights of a join
+abbrev pub WeightsSettled : WeightsEntry → Result (ℕ × ℕ) Fault → Type 0
+WeightsSettled v r =
+    (fs : List Field) (rs : List Rule) (ps : List Word)
+    → Rising (map use-place (weight-uses (weights-of v)))
+    → Settles (UsesFault fs rs ps (weight-uses (weights-of v)))
+    (λ y. (left-weight (weights-of v) ≡ y .0) × (right-weight (weights-of v) ≡ y .1)) r
+
 -- an entry in a line with the first count of the parameters ws, which may call the rules below that number
 abbrev pub EntrySettled :
     List ℕ → Table → List WordEntry → (count below : ℕ) → NodeEntry → Result Node Fault → Type 0

@@ -4,7 +4,6 @@ use crate::lookup::find_param;
 use crate::lookup::find_rule;
 use crate::lookup::has_other_count;
 use grammar::table::Node as WrittenNode;
-use grammar::table::Number;
 use grammar::table::RuleLine;
 use grammar::table::Table;
 use grammar::table::Term as WrittenTerm;
@@ -16,10 +15,10 @@ use sheet::node::Name;
 use sheet::node::Node;
 use sheet::node::Shift;
 use sheet::node::Term;
-ghost use Prim.Native.Nat.{_<_};
+ghost use Prim.Native.Nat.{_<_, _≤_};
 ghost use lib.ListN.{take};
 ghost use Rattle.std.specs.Vec.{made};
-ghost use Rattle.names.specs.Looking.{NameSettled, CallSettled, TermSettled, EntrySettled, EarlierOf};
+ghost use Rattle.names.specs.Looking.{NameSettled, CallSettled, TermSettled, TermsSettled, WeightsSettled, EntrySettled, EarlierOf};
 
 // The earlier of two faults: by place, then by number.
 pub(crate) fn earlier(a: Fault, b: Fault) -> Fault
@@ -72,6 +71,47 @@ fn number_term(text: &[u8], table: &Table, params: &[Word; 4], count: usize, ter
         WrittenTerm::Lowered(w, n) => {
             let name = number_name(text, table, params, count, w)?;
             Ok(Term::Moved(name, Shift::Down(n)))
+        }
+    }
+}
+
+// The first `n` terms with their names replaced by numbers.
+fn number_terms(
+    text: &[u8],
+    table: &Table,
+    params: &[Word; 4],
+    count: usize,
+    terms: &[WrittenTerm; 4],
+    n: usize,
+) -> Result<[Term; 4], Fault>
+    requires { ⌜ n ≤ 4 ⌝ }
+    ensures { λ r. ⌜ TermsSettled (now (text .entry)) (now (table .entry)) (now (params .entry)) count (now (terms .entry)) n r ⌝ }
+{
+    let mut numbered = [Term::Number(0); 4];
+    let mut i = 0;
+    while i < n {
+        let term = terms[i];
+        let known = number_term(text, table, params, count, term)?;
+        numbered[i] = known;
+        i += 1;
+    }
+    Ok(numbered)
+}
+
+// The weights of a join, which may not be 0: 1 and 1 where none are written.
+fn number_weights(weights: Weights) -> Result<(u16, u16), Fault>
+    ensures { λ r. ⌜ WeightsSettled weights r ⌝ }
+{
+    match weights {
+        Weights::Absent => Ok((1, 1)),
+        Weights::Given(v, w) => {
+            if v.value == 0 {
+                return Err(Fault { refusal: Refusal::WrongNumber, place: v.place });
+            }
+            if w.value == 0 {
+                return Err(Fault { refusal: Refusal::WrongNumber, place: w.place });
+            }
+            Ok((v.value, w.value))
         }
     }
 }
