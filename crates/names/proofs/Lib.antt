@@ -7,3 +7,4 @@ pub mod Numbering
 pub mod Ordered
 pub mod Terms
 pub mod WeightsKept
+pub mod Settled

@@ -3,6 +3,7 @@ use crate::lookup::find_field;
 use crate::lookup::find_param;
 use crate::lookup::find_rule;
 use crate::lookup::has_other_count;
+use formula::Comparison;
 use grammar::table::Node as WrittenNode;
 use grammar::table::RuleLine;
 use grammar::table::Table;
@@ -15,9 +16,10 @@ use sheet::node::Name;
 use sheet::node::Node;
 use sheet::node::Shift;
 use sheet::node::Term;
-ghost use Prim.Native.Nat.{_<_, _≤_};
+ghost use Prim.Native.Nat.{ℕ, _<_, _≤_};
 ghost use lib.ListN.{take};
 ghost use Rattle.std.specs.Vec.{made};
+ghost use Rattle.grammar.specs.declared.table.Node.the-variants.{Compared, Called};
 ghost use Rattle.names.specs.Looking.{NameSettled, CallSettled, TermSettled, TermsSettled, WeightsSettled, EntrySettled, EarlierOf};
 
 // The earlier of two faults: by place, then by number.
@@ -112,6 +114,76 @@ fn number_weights(weights: Weights) -> Result<(u16, u16), Fault>
                 return Err(Fault { refusal: Refusal::WrongNumber, place: w.place });
             }
             Ok((v.value, w.value))
+        }
+    }
+}
+
+// A call with its name and terms replaced by numbers.
+fn number_called(
+    text: &[u8],
+    table: &Table,
+    params: &[Word; 4],
+    count: usize,
+    below: usize,
+    name: Word,
+    n: usize,
+    terms: &[WrittenTerm; 4],
+) -> Result<Node, Fault>
+    ensures {
+        λ r. ⌜ EntrySettled (now (text .entry)) (now (table .entry)) (now (params .entry)) count below
+            (Called name n (now (terms .entry))) r ⌝
+    }
+{
+    let rule = number_call(text, &table.rules, below, name, n)?;
+    if n > 4 {
+        return Err(Fault { refusal: Refusal::WrongTermCount, place: name.place });
+    }
+    let numbered = number_terms(text, table, params, count, terms, n)?;
+    Ok(Node::Call(rule as u8, n as u8, numbered))
+}
+
+// A comparison with the names of its terms replaced by numbers.
+fn number_compared(
+    text: &[u8],
+    table: &Table,
+    params: &[Word; 4],
+    count: usize,
+    left: WrittenTerm,
+    sign: Comparison,
+    right: WrittenTerm,
+) -> Result<Node, Fault>
+    ensures {
+        λ r. ⌜ ((below : ℕ) → EntrySettled (now (text .entry)) (now (table .entry)) (now (params .entry)) count below
+            (Compared sign left right) r) ⌝
+    }
+{
+    let x = number_term(text, table, params, count, left)?;
+    let y = number_term(text, table, params, count, right)?;
+    Ok(Node::Compare(x, sign, y))
+}
+
+// An entry with its names replaced by numbers, or its first fault.
+pub(crate) fn number_entry(
+    text: &[u8],
+    table: &Table,
+    params: &[Word; 4],
+    count: usize,
+    below: usize,
+    entry: WrittenNode,
+) -> Result<Node, Fault>
+    ensures { λ r. ⌜ EntrySettled (now (text .entry)) (now (table .entry)) (now (params .entry)) count below entry r ⌝ }
+{
+    match entry {
+        WrittenNode::Compared(sign, left, right) => number_compared(text, table, params, count, left, sign, right),
+        WrittenNode::Called(name, n, terms) => number_called(text, table, params, count, below, name, n, &terms),
+        WrittenNode::Negated(part) => Ok(Node::Not(part)),
+        WrittenNode::Picked(word, part) => {
+            let name = number_name(text, table, params, count, word)?;
+            Ok(Node::Pick(name, part))
+        }
+        WrittenNode::Joined(join, weights, left, right) => {
+            let known = number_weights(weights)?;
+            Ok(Node::Join(join, known.0, known.1, left, right))
         }
     }
 }
