@@ -8,3 +8,4 @@ pub mod Ordered
 pub mod Terms
 pub mod WeightsKept
 pub mod Settled
+pub mod Runs

@@ -22,12 +22,12 @@ use Rattle.grammar.specs.declared.table.Node.the-variants.{Compared, Called, Ne
 use Rattle.grammar.specs.declared.table.RuleLine.{RuleLine}
 use Rattle.grammar.specs.declared.table.Table.{Table}
 use Rattle.grammar.specs.Syntax.{Word, num, Term, Weights, Formula, compared, called, negated, picked, joined, Field, Rule, rule-line}
-use Rattle.grammar.specs.Tables.{word-of, term-of, weights-of, params-of, place-of, fields-of, Rising}
+use Rattle.grammar.specs.Tables.{word-of, term-of, node-at, weights-of, params-of, place-of, fields-of, Rising}
 use Rattle.sheet.specs.declared.node.Name.{Name}
 use Rattle.sheet.specs.declared.node.Term.{Term as SheetTerm}
 use Rattle.sheet.specs.declared.node.Node.{Node}
 use Rattle.sheet.specs.declared.node.Node.the-variants.{Compare, Call, Not, Pick, Join as JoinNode}
-use Rattle.sheet.specs.Table.{name-of as number-name, term-of as number-term}
+use Rattle.sheet.specs.Table.{name-of as number-name, term-of as number-term, node-at as number-node}
 use Rattle.names.specs.Lists.{Stands, In, Each}
 use Rattle.names.specs.Names.{spelling, Means, Calls, TermIs, left-weight, right-weight}
 use Rattle.names.specs.Faults.{Use, term, call, weight, term-uses, terms-uses, weight-uses, UseFault, First, NoLater}
@@ -148,6 +148,11 @@ Earlier f g = NoLater (number (f .refusal)) (f .place) (number (g .refusal)) (g 
 abbrev pub EarlierOf : Fault → Fault → Fault → Type 0
 EarlierOf f g r = ((r ≡ f) × Earlier f g) ⊎ ((r ≡ g) × Earlier g f)
 
+-- r is the first of the faults so far, if any, and f
+abbrev pub Sooner : Option Fault → Fault → Fault → Type 0
+Sooner None f r = r ≡ f
+Sooner (Some g) f r = EarlierOf g f r
+
 -- What is settled of a name, a call, a term and an entry: the first fault, or what it comes to
 
 -- a name in a line with the first count of the parameters ws
@@ -200,3 +205,31 @@ EntrySettled text t ws count below x r =
     → Rising (map use-place (own-uses f))
     → Settles (UsesFault (fields-of text t) rs (names-of text ws count) (own-uses f))
     (Numbered text (fields-of text t) rs (names-of text ws count) x) r
+
+-- a fault of what some entry from start to before end uses itself, where part gives the formula of each entry
+abbrev pub EntriesFault :
+    List Field → List Rule → List Word → (part : ℕ → Formula) → (start end : ℕ) → (number place : ℕ) → Type 0
+EntriesFault fs rs ps part start end n p =
+    (k : ℕ) × (start ≤ k) × (k < end) × UsesFault fs rs ps (own-uses (part k)) n p
+
+-- the entries from start to before end are those of the formulas that part gives
+abbrev pub AreEntries : List ℕ → List NodeEntry → (part : ℕ → Formula) → (start end : ℕ) → Type 0
+AreEntries text nodes part start end =
+    (k : ℕ) → start ≤ k → k < end → IsEntry text (node-at nodes k) (part k) × Rising (map use-place (own-uses (part k)))
+
+-- the entries from start to before end: their first fault, or none and the entries by their numbers
+abbrev pub EntriesSettled :
+    List ℕ → Table → List WordEntry → (count below start end : ℕ) → List Node → Option Fault → Type 0
+EntriesSettled text t ws count below start end nodes r =
+    (rs : List Rule) (part : ℕ → Formula)
+    → Heads text (take below (t .rules)) rs
+    → AreEntries text (t .nodes) part start end
+    → Best (EntriesFault (fields-of text t) rs (names-of text ws count) part start end) r
+    × (r ≡ None → (k : ℕ) → start ≤ k → k < end
+      → Numbered text (fields-of text t) rs (names-of text ws count) (node-at (t .nodes) k) (number-node nodes k))
+
+-- two tables agree outside the entries from start to before end
+abbrev pub SameOutside : List Node → List Node → (start end : ℕ) → Type 0
+SameOutside before after start end =
+    ((k : ℕ) → k < start → number-node after k ≡ number-node before k)
+    × ((k : ℕ) → end ≤ k → number-node after k ≡ number-node before k)

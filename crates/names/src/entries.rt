@@ -16,17 +16,27 @@ use sheet::node::Name;
 use sheet::node::Node;
 use sheet::node::Shift;
 use sheet::node::Term;
-ghost use Prim.Native.Nat.{ℕ, _<_, _≤_};
+ghost use Prim.Native.Nat.{ℕ, _+_, _<_, _≤_};
 ghost use lib.ListN.{take};
 ghost use Rattle.std.specs.Vec.{made};
 ghost use Rattle.grammar.specs.declared.table.Node.the-variants.{Compared, Called};
-ghost use Rattle.names.specs.Looking.{NameSettled, CallSettled, TermSettled, TermsSettled, WeightsSettled, EntrySettled, EarlierOf};
+ghost use Rattle.names.specs.Looking.{NameSettled, CallSettled, TermSettled, TermsSettled, WeightsSettled, EntrySettled, EntriesSettled, SameOutside, EarlierOf, Sooner};
 
 // The earlier of two faults: by place, then by number.
 pub(crate) fn earlier(a: Fault, b: Fault) -> Fault
     ensures { λ r. ⌜ EarlierOf a b r ⌝ }
 {
     if a.place < b.place || (a.place == b.place && a.refusal.number() <= b.refusal.number()) { a } else { b }
+}
+
+// The first of the faults so far and one more.
+fn sooner(first: Option<Fault>, fault: Fault) -> Fault
+    ensures { λ r. ⌜ Sooner first fault r ⌝ }
+{
+    match first {
+        Some(other) => earlier(other, fault),
+        None => fault,
+    }
 }
 
 // The field or parameter of that name, where the first `count` parameters count.
@@ -186,4 +196,34 @@ pub(crate) fn number_entry(
             Ok(Node::Join(join, known.0, known.1, left, right))
         }
     }
+}
+
+// Writes the entries from `start` to `body` with their names replaced by numbers, and answers their first fault.
+pub(crate) fn number_entries(
+    text: &[u8],
+    table: &Table,
+    params: &[Word; 4],
+    count: usize,
+    below: usize,
+    start: u8,
+    body: u8,
+    nodes: &mut [Node; 256],
+) -> Option<Fault>
+    ensures settled {
+        λ r. ⌜ EntriesSettled (now (text .entry)) (now (table .entry)) (now (params .entry)) count below start (body + 1)
+            (now (nodes .exit)) r ⌝
+    }
+    ensures outside { λ _. ⌜ SameOutside (now (nodes .entry)) (now (nodes .exit)) start (body + 1) ⌝ }
+{
+    let mut first = None;
+    let mut i = start as usize;
+    while i <= body as usize {
+        let entry = table.nodes[i];
+        match number_entry(text, table, params, count, below, entry) {
+            Ok(node) => nodes[i] = node,
+            Err(fault) => first = Some(sooner(first, fault)),
+        }
+        i += 1;
+    }
+    first
 }
