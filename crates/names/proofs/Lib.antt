@@ -9,3 +9,4 @@ pub mod Terms
 pub mod WeightsKept
 pub mod Settled
 pub mod Runs
+pub mod Parts
