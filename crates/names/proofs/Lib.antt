@@ -10,3 +10,4 @@ pub mod WeightsKept
 pub mod Settled
 pub mod Runs
 pub mod Parts
+pub mod Taken

@@ -4,7 +4,7 @@ use mathlib.Core.Bool.{Bool, true, false}
 use mathlib.Core.List.{List, [], _∷_, _++_, map}
 use mathlib.Core.Logic.{_⊎_}
 use Prim.Native.Nat.{ℕ, _<_, _≤_}
-use lib.ListN.{length, take}
+use lib.ListN.{length, getD, take}
 use Rattle.std.specs.declared.option.Option.{Option}
 use Rattle.std.specs.declared.option.Option.the-variants.{Some, None}
 use Rattle.std.specs.declared.result.Result.{Result}
@@ -19,10 +19,11 @@ use Rattle.grammar.specs.declared.table.Term.{Term as TermEntry}
 use Rattle.grammar.specs.declared.table.Weights.{Weights as WeightsEntry}
 use Rattle.grammar.specs.declared.table.Node.{Node as NodeEntry}
 use Rattle.grammar.specs.declared.table.Node.the-variants.{Compared, Called, Negated, Picked, Joined}
+use Rattle.grammar.specs.declared.table.FieldLine.{FieldLine}
 use Rattle.grammar.specs.declared.table.RuleLine.{RuleLine}
 use Rattle.grammar.specs.declared.table.Table.{Table}
 use Rattle.grammar.specs.Syntax.{Word, num, Term, Weights, Formula, compared, called, negated, picked, joined, Field, Rule, rule-line}
-use Rattle.grammar.specs.Tables.{word-of, term-of, node-at, weights-of, params-of, place-of, fields-of, Rising}
+use Rattle.grammar.specs.Tables.{word-of, term-of, node-at, weights-of, field-of, params-of, place-of, fields-of, Rising}
 use Rattle.sheet.specs.declared.node.Name.{Name}
 use Rattle.sheet.specs.declared.node.Term.{Term as SheetTerm}
 use Rattle.sheet.specs.declared.node.Node.{Node}
@@ -30,7 +31,7 @@ use Rattle.sheet.specs.declared.node.Node.the-variants.{Compare, Call, Not, Pic
 use Rattle.sheet.specs.Table.{name-of as number-name, term-of as number-term, node-at as number-node}
 use Rattle.names.specs.Lists.{Stands, In, Each}
 use Rattle.names.specs.Names.{spelling, Means, Calls, TermIs, left-weight, right-weight}
-use Rattle.names.specs.Faults.{Use, term, call, weight, term-uses, terms-uses, weight-uses, UseFault, First, NoLater}
+use Rattle.names.specs.Faults.{Use, term, call, weight, term-uses, terms-uses, weight-uses, UseFault, field-name, rule-name, all-names, Taken, FieldFault, First, NoLater}
 
 -- a test that says whether P holds
 abbrev pub Tells : Type 0 → Bool → Type 0
@@ -49,6 +50,17 @@ SomeOf {A} P xs = (i : ℕ) × (x : A) × Stands A xs i x × P x
 -- two names are spelled alike
 abbrev pub Alike : List ℕ → WordEntry → WordEntry → Type 0
 Alike text v w = spelling (word-of text v) ≡ spelling (word-of text w)
+
+-- the field line of that number
+abbrev pub field-at : List FieldLine → ℕ → FieldLine
+field-at fields i =
+    getD fields i
+    (record {
+      first = 0;
+      name = record { place = 0; length = 0 };
+      low = record { value = 0; place = 0 };
+      high = record { value = 0; place = 0 };
+    })
 
 -- the first n of some names
 abbrev pub names-of : List ℕ → List WordEntry → ℕ → List Word
@@ -233,3 +245,45 @@ abbrev pub SameOutside : List Node → List Node → (start end : ℕ) → Type 
 SameOutside before after start end =
     ((k : ℕ) → k < start → number-node after k ≡ number-node before k)
     × ((k : ℕ) → end ≤ k → number-node after k ≡ number-node before k)
+
+-- Names that lines declare
+
+-- a rule line declares the name w: as its own, or as a parameter's
+abbrev pub Declares : List ℕ → WordEntry → RuleLine → Type 0
+Declares text w l = Alike text (l .name) w ⊎ SomeOf (λ v. Alike text v w) (take (l .«param_count») (l .params))
+
+-- a name that stands for none
+abbrev pub no-word : WordEntry
+no-word = record { place = 0; length = 0 }
+
+-- the name w is that of a field, of a rule line above, of the line's own rule or of a parameter before the number k
+abbrev pub ParamTaken : List ℕ → Table → (l : ℕ) → RuleLine → (k : ℕ) → WordEntry → Type 0
+ParamTaken text t l line k w =
+    SomeOf (λ f. Alike text (f .name) w) (take (t .«field_count») (t .fields))
+    ⊎ (SomeOf (λ r. Alike text (r .name) w) (take l (t .rules))
+    ⊎ (Alike text (line .name) w ⊎ SomeOf (λ v. Alike text v w) (take k (line .params))))
+
+-- a name that the rule line declares, its own w or one of its parameters ps, is taken
+abbrev pub NamesFault : List Field → (above : List Rule) → Word → List Word → (number place : ℕ) → Type 0
+NamesFault fs above w ps n p =
+    (Taken (map field-name fs ++ all-names above) w × (n ≡ 7) × (p ≡ place-of w))
+    ⊎ ((i : ℕ) × (v : Word) × Stands Word ps i v
+      × (Taken (map field-name fs ++ (map rule-name above ++ (w ∷ take i ps))) v × (n ≡ 7) × (p ≡ place-of v)))
+
+-- the field line i: its first fault
+abbrev pub FieldSettled : List ℕ → List FieldLine → (i : ℕ) → Option Fault → Type 0
+FieldSettled text fields i r =
+    field-at fields i .name .place < field-at fields i .low .place
+    → Best (FieldFault (map (field-of text) (take i fields)) (field-of text (field-at fields i))) r
+
+-- the names that the rule line of number l declares: the first that is taken
+abbrev pub NamesSettled : List ℕ → Table → (l : ℕ) → RuleLine → Option Fault → Type 0
+NamesSettled text t l line r =
+    (above : List Rule) (w : Word) (ps : List Word)
+    → Heads text (take l (t .rules)) above
+    → word-of text (line .name) ≡ w
+    → line .«param_count» ≡ length ps
+    → params-of text line ≡ ps
+    → length ps ≤ 4
+    → Rising (place-of w ∷ map place-of ps)
+    → Best (NamesFault (fields-of text t) above w ps) r

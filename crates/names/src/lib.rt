@@ -1,4 +1,5 @@
 // The names of a sheet: its first fault, or the sheet that it comes to.
+mod declared;
 mod entries;
 mod lookup;
 ghost use Rattle.names.specs.Faults.{One-verdict};
