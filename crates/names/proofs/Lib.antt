@@ -11,3 +11,7 @@ pub mod Settled
 pub mod Runs
 pub mod Parts
 pub mod Taken
+pub mod InOrder
+pub mod WholeLines
+pub mod Loops
+pub mod Covered

@@ -54,7 +54,7 @@ first-of-two {F} {G} (Some o) f g b h e =
       (record { fault = inr (h .fault); least = λ m q x. ⊎-elim (λ y. le-trans _ _ _ _ _ _ (u .1) (b .least m q y)) (h .least m q) x }))
     e
 
-best-like :
+pub best-like :
     {F G : ℕ → ℕ → Type 0} (r : Option Fault)
     → ((n p : ℕ) → F n p → G n p) → ((n p : ℕ) → G n p → F n p) → Best F r → Best G r
 best-like None to from b = λ n p g. b n p (from n p g)

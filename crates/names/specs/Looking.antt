@@ -3,7 +3,7 @@ use mathlib.Core.Path.{_≡_}
 use mathlib.Core.Bool.{Bool, true, false}
 use mathlib.Core.List.{List, [], _∷_, _++_, map}
 use mathlib.Core.Logic.{_⊎_}
-use Prim.Native.Nat.{ℕ, _<_, _≤_}
+use Prim.Native.Nat.{ℕ, _+_, _<_, _≤_}
 use lib.ListN.{length, getD, take}
 use Rattle.std.specs.declared.option.Option.{Option}
 use Rattle.std.specs.declared.option.Option.the-variants.{Some, None}
@@ -22,8 +22,8 @@ use Rattle.grammar.specs.declared.table.Node.the-variants.{Compared, Called, Ne
 use Rattle.grammar.specs.declared.table.FieldLine.{FieldLine}
 use Rattle.grammar.specs.declared.table.RuleLine.{RuleLine}
 use Rattle.grammar.specs.declared.table.Table.{Table}
-use Rattle.grammar.specs.Syntax.{Word, num, Term, Weights, Formula, compared, called, negated, picked, joined, Field, Rule, rule-line}
-use Rattle.grammar.specs.Tables.{word-of, term-of, node-at, weights-of, field-of, params-of, place-of, fields-of, Rising}
+use Rattle.grammar.specs.Syntax.{Word, num, Term, Weights, Formula, compared, called, negated, picked, joined, Field, Rule, rule-line, mark-line, Sheet, sheet}
+use Rattle.grammar.specs.Tables.{word-of, term-of, node-at, weights-of, field-of, params-of, place-of, formula-places, fields-places, rules-places, fields-of, rules-of, Entries, Rules, Holds, WellRead, Over, Rising}
 use Rattle.sheet.specs.declared.node.Name.{Name}
 use Rattle.sheet.specs.declared.node.Term.{Term as SheetTerm}
 use Rattle.sheet.specs.declared.node.Node.{Node}
@@ -31,7 +31,7 @@ use Rattle.sheet.specs.declared.node.Node.the-variants.{Compare, Call, Not, Pic
 use Rattle.sheet.specs.Table.{name-of as number-name, term-of as number-term, node-at as number-node}
 use Rattle.names.specs.Lists.{Stands, In, Each}
 use Rattle.names.specs.Names.{spelling, Means, Calls, TermIs, left-weight, right-weight}
-use Rattle.names.specs.Faults.{Use, term, call, weight, term-uses, terms-uses, weight-uses, UseFault, field-name, rule-name, all-names, Taken, FieldFault, First, NoLater}
+use Rattle.names.specs.Faults.{Use, term, call, weight, term-uses, terms-uses, weight-uses, UseFault, field-name, rule-name, all-names, Taken, sizes, FieldFault, RuleFault, MarkFault, Faulty, First, NoLater}
 
 -- a test that says whether P holds
 abbrev pub Tells : Type 0 → Bool → Type 0
@@ -287,3 +287,107 @@ NamesSettled text t l line r =
     → length ps ≤ 4
     → Rising (place-of w ∷ map place-of ps)
     → Best (NamesFault (fields-of text t) above w ps) r
+
+-- Whole lines
+
+-- the rule line of that number
+abbrev pub rule-at : List RuleLine → ℕ → RuleLine
+rule-at rules l =
+    getD rules l
+    (record { first = 0; name = record { place = 0; length = 0 }; params = []; «param_count» = 0; start = 0; body = 0 })
+
+-- the entries from start to before end are numbered, where the rules rs may be called and ps are the parameters
+abbrev pub EntriesNumbered :
+    List ℕ → Table → List Rule → List Word → List Node → (start end : ℕ) → Type 0
+EntriesNumbered text t rs ps nodes start end =
+    (k : ℕ) → start ≤ k → k < end → Numbered text (fields-of text t) rs ps (node-at (t .nodes) k) (number-node nodes k)
+
+-- the parameters of a rule
+abbrev pub rule-params : Rule → List Word
+rule-params (rule-line p w ps f) = ps
+
+-- the formula of a rule
+abbrev pub rule-body : Rule → Formula
+rule-body (rule-line p w ps f) = f
+
+-- the places of a rule line: its first word, its names and what its formula uses
+abbrev pub rule-places : Rule → List ℕ
+rule-places (rule-line p w ps f) = p ∷ place-of w ∷ (map place-of ps ++ formula-places f)
+
+-- the line, with its entries, is that of the rule, below the rules above and over no limit
+pub record IsRuleLine (text : List ℕ) (nodes : List NodeEntry) (line : RuleLine) (above : List Rule) (r : Rule) : Type 0 where
+  pub head : IsHead text line r
+  pub entries : Entries text nodes (line .start) (line .body) (rule-body r)
+  pub few-rules : length above < 16
+  pub within : Over (sizes above) (rule-params r) (rule-body r) → ⊥
+
+-- the rule line of number l: its first fault, or none and its entries by their numbers
+abbrev pub RuleSettled : List ℕ → Table → (l : ℕ) → List Node → Option Fault → Type 0
+RuleSettled text t l nodes r =
+    (above : List Rule) (x : Rule)
+    → Heads text (take l (t .rules)) above
+    → IsRuleLine text (t .nodes) (rule-at (t .rules) l) above x
+    → Rising (rule-places x)
+    → Best (RuleFault (fields-of text t) above x) r
+    × (r ≡ None → EntriesNumbered text t (above ++ (x ∷ [])) (rule-params x) nodes
+      (rule-at (t .rules) l .start) (rule-at (t .rules) l .body + 1))
+
+-- the mark line: its first fault, or none and its entries by their numbers
+abbrev pub MarkSettled : List ℕ → Table → List Node → Option Fault → Type 0
+MarkSettled text t nodes r =
+    (rs : List Rule) (p : ℕ) (f : Formula)
+    → Heads text (take (t .«rule_count») (t .rules)) rs
+    → Entries text (t .nodes) (t .mark .start) (t .mark .body) f
+    → (Over (sizes rs) [] f → ⊥)
+    → Rising (formula-places f)
+    → Best (MarkFault (fields-of text t) rs (mark-line p f)) r
+    × (r ≡ None → EntriesNumbered text t rs [] nodes (t .mark .start) (t .mark .body + 1))
+
+-- All lines
+
+-- a fault of one of the field lines
+abbrev pub FieldsFault : List Field → (number place : ℕ) → Type 0
+FieldsFault fs n p = (i : ℕ) × (f : Field) × Stands Field fs i f × FieldFault (take i fs) f n p
+
+-- a fault of one of the rule lines
+abbrev pub RulesFault : List Field → List Rule → (number place : ℕ) → Type 0
+RulesFault fs rs n p = (i : ℕ) × (x : Rule) × Stands Rule rs i x × RuleFault fs (take i rs) x n p
+
+-- the field lines: their first fault
+abbrev pub FieldsSettled : List ℕ → Table → Option Fault → Type 0
+FieldsSettled text t r =
+    (fs : List Field) (zs : List ℕ)
+    → fields-of text t ≡ fs
+    → t .«field_count» ≡ length fs
+    → length fs ≤ 8
+    → Rising (fields-places fs zs)
+    → Best (FieldsFault fs) r
+
+-- the entries of the first n rule lines are numbered
+abbrev pub RulesNumbered : List ℕ → Table → List Rule → (n : ℕ) → List Node → Type 0
+RulesNumbered text t rs n nodes =
+    (i : ℕ) (x : Rule) → i < n → Stands Rule rs i x
+    → EntriesNumbered text t (take i rs ++ (x ∷ [])) (rule-params x) nodes
+      (rule-at (t .rules) i .start) (rule-at (t .rules) i .body + 1)
+
+-- the rule lines: their first fault, or none and their entries by their numbers
+abbrev pub RulesSettled : List ℕ → Table → List Node → Option Fault → Type 0
+RulesSettled text t nodes r =
+    (rs : List Rule) (e : ℕ) (zs : List ℕ)
+    → Rules text (t .nodes) 0 (rules-of t) rs e
+    → t .«rule_count» ≡ length rs
+    → length rs ≤ 16
+    → Rising (rules-places rs zs)
+    → Best (RulesFault (fields-of text t) rs) r × (r ≡ None → RulesNumbered text t rs (length rs) nodes)
+
+-- every line of the sheet is numbered
+abbrev pub AllNumbered : List ℕ → Table → List Node → Sheet → Type 0
+AllNumbered text t nodes (sheet fs rs (mark-line p f)) =
+    RulesNumbered text t rs (length rs) nodes
+    × EntriesNumbered text t rs [] nodes (t .mark .start) (t .mark .body + 1)
+
+-- the lines of the sheet that the table holds: its first fault, or none and all entries by their numbers
+abbrev pub LinesSettled : List ℕ → Table → List Node → Option Fault → Type 0
+LinesSettled text t nodes r =
+    (s : Sheet) → Holds text t s → WellRead s
+    → Best (Faulty s) r × (r ≡ None → (t .over ≡ None) × AllNumbered text t nodes s)

@@ -9,8 +9,9 @@ use grammar::table::Table;
 use grammar::table::Word;
 use refusal::Fault;
 use refusal::Refusal;
+ghost use mathlib.Core.Path.{_≡_};
 ghost use Prim.Native.Nat.{_<_};
-ghost use lib.ListN.{take, getD};
+ghost use lib.ListN.{length, take, getD};
 ghost use Rattle.names.specs.Looking.{Tells, SomeOf, Declares, ParamTaken, no-word, FieldSettled, NamesSettled};
 
 // Whether a rule below `below` declares that name, as its own or as a parameter's.
@@ -55,7 +56,8 @@ fn is_param_taken(text: &[u8], table: &Table, l: usize, rule: RuleLine, k: usize
 // The first fault of the field line `i`.
 pub(crate) fn field_fault(text: &[u8], fields: &[FieldLine; 8], i: usize) -> Option<Fault>
     requires { ⌜ i < 8 ⌝ }
-    ensures { λ r. ⌜ FieldSettled (now (text .entry)) (now (fields .entry)) i r ⌝ }
+    ensures settled { λ r. ⌜ FieldSettled (now (text .entry)) (now (fields .entry)) i r ⌝ }
+    ensures long { λ _. ⌜ length (now (fields .entry)) ≡ 8 ⌝ }
 {
     let field = fields[i];
     if let Some(_) = find_field(text, fields, i, field.name) {
