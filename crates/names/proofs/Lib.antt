@@ -15,3 +15,4 @@ pub mod InOrder
 pub mod WholeLines
 pub mod Loops
 pub mod Covered
+pub mod Trees
