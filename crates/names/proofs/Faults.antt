@@ -8,10 +8,10 @@ use lib.ListN.{length, take}
 use Rattle.formula.specs.Trees as tree
 use Rattle.grammar.specs.Syntax.{Word, word, Number, num, Formula, Field, field-line, Rule, rule-line, Mark, mark-line, Sheet, sheet}
 use Rattle.grammar.specs.Tables.{place-of, size, joins, Over, many-params, many-joins, many-formulas}
-use Rattle.names.specs.Lists.{Stands, here, there, In, this, that, Before, now, later}
+use Rattle.names.specs.Lists.{Stands, In}
 use Rattle.names.specs.Names.{spelling, Means, a-field, a-param, Calls, the-rule}
-use Rattle.names.specs.Faults.{Use, term, call, weight, uses, UseFault, unknown-name, unknown-rule, wrong-terms, zero-weight, FormulaFault, field-name, rule-name, all-names, Taken, sizes, FieldFault, field-taken, wrong-range, many-fields, RuleFault, rule-taken, param-taken, param-twice, rule-formula, many-rules, rule-passes, MarkFault, mark-formula, mark-passes, Faulty, in-field, in-rule, in-mark}
-use Rattle.names.proofs.Search.{Among, Some-in, Pair-of, Dec, Search, same-number, same-word, both, either, below, upto, negate, search-dec, search-iff, search-or, search-among, search-in, search-pairs, find, stands-in, in-stands}
+use Rattle.names.specs.Faults.{Use, term, call, weight, uses, UseFault, unknown-name, unknown-rule, wrong-terms, zero-weight, FormulaFault, field-name, rule-name, all-names, Taken, sizes, FieldFault, field-taken, wrong-range, many-fields, RuleFault, rule-taken, param-taken, rule-formula, many-rules, rule-passes, MarkFault, mark-formula, mark-passes, Faulty, in-field, in-rule, in-mark}
+use Rattle.names.proofs.Search.{Among, Dec, Search, same-number, same-word, both, below, upto, negate, search-dec, search-iff, search-or, search-among, search-in, find, stands-in, in-stands}
 
 move : (F : ℕ → ℕ → Type 0) {m q n p : ℕ} → n ≡ m → p ≡ q → F m q → F n p
 move F {m} {q} {n} {p} e f x = subst (λ k. F k p) (sym e) (subst (λ k. F m k) (sym f) x)
@@ -168,45 +168,41 @@ search-field above (field-line q w (num low a) (num high b)) =
       (search-or (search-dec (below high low) 10 a) (search-dec (upto 8 (length above)) 11 q)))
 
 module _ (fs : List Field) (above : List Rule) where
-  abbrev ParamAt : Word → Word → ℕ → ℕ → Type 0
-  ParamAt w v n p = Taken (map field-name fs ++ (map rule-name above ++ (w ∷ []))) v × (n ≡ 7) × (p ≡ place-of v)
-
-  abbrev TwiceAt : Word → Word → ℕ → ℕ → Type 0
-  TwiceAt u v n p = (spelling u ≡ spelling v) × (n ≡ 7) × (p ≡ place-of v)
+  abbrev ParamAt : Word → List Word → ℕ → Word → ℕ → ℕ → Type 0
+  ParamAt w ps i v n p =
+    Taken (map field-name fs ++ (map rule-name above ++ (w ∷ take i ps))) v × (n ≡ 7) × (p ≡ place-of v)
 
   abbrev RuleAt : Rule → ℕ → ℕ → Type 0
   RuleAt (rule-line q w ps f) n p =
     (Taken (map field-name fs ++ all-names above) w × (n ≡ 7) × (p ≡ place-of w))
-    ⊎ (Some-in Word ps (ParamAt w) n p
-    ⊎ (Pair-of Word ps TwiceAt n p
+    ⊎ (Among Word ps (ParamAt w ps) n p
     ⊎ (FormulaFault fs (above ++ (rule-line q w ps f ∷ [])) ps f n p
-    ⊎ (((16 ≤ length above) × (n ≡ 11) × (p ≡ q)) ⊎ (Over (sizes above) ps f × (n ≡ 11) × (p ≡ q))))))
+    ⊎ (((16 ≤ length above) × (n ≡ 11) × (p ≡ q)) ⊎ (Over (sizes above) ps f × (n ≡ 11) × (p ≡ q)))))
 
   rule-to : (r : Rule) (n p : ℕ) → RuleAt r n p → RuleFault fs above r n p
   rule-to (rule-line q w ps f) n p t =
     ⊎-elim (λ x. move (RuleFault fs above (rule-line q w ps f)) (x .1) (x .2) (rule-taken (x .0)))
-    (λ a. ⊎-elim (λ x. move (RuleFault fs above (rule-line q w ps f)) (x .2 .1) (x .2 .2) (param-taken (x .1) (x .2 .0)))
-      (λ b. ⊎-elim (λ x. move (RuleFault fs above (rule-line q w ps f)) (x .3 .1) (x .3 .2) (param-twice (x .2) (x .3 .0)))
-        (λ c. ⊎-elim (λ x. rule-formula x)
-          (λ d. ⊎-elim (λ x. move (RuleFault fs above (rule-line q w ps f)) (x .1) (x .2) (many-rules (x .0)))
-            (λ x. move (RuleFault fs above (rule-line q w ps f)) (x .1) (x .2) (rule-passes (x .0))) d) c) b) a) t
+    (λ a. ⊎-elim (λ x. move (RuleFault fs above (rule-line q w ps f)) (x .3 .1) (x .3 .2) (param-taken (x .2) (x .3 .0)))
+      (λ c. ⊎-elim (λ x. rule-formula x)
+        (λ d. ⊎-elim (λ x. move (RuleFault fs above (rule-line q w ps f)) (x .1) (x .2) (many-rules (x .0)))
+          (λ x. move (RuleFault fs above (rule-line q w ps f)) (x .1) (x .2) (rule-passes (x .0))) d) c) a) t
 
   rule-from : (r : Rule) (n p : ℕ) → RuleFault fs above r n p → RuleAt r n p
   rule-from (rule-line q w ps f) n p (rule-taken h) = inl (h, refl, refl)
-  rule-from (rule-line q w ps f) n p (param-taken m h) = inr (inl (_, m, (h, refl, refl)))
-  rule-from (rule-line q w ps f) n p (param-twice b h) = inr (inr (inl (_, _, b, (h, refl, refl))))
-  rule-from (rule-line q w ps f) n p (rule-formula h) = inr (inr (inr (inl h)))
-  rule-from (rule-line q w ps f) n p (many-rules h) = inr (inr (inr (inr (inl (h, refl, refl)))))
-  rule-from (rule-line q w ps f) n p (rule-passes h) = inr (inr (inr (inr (inr (h, refl, refl)))))
+  rule-from (rule-line q w ps f) n p (param-taken st h) = inr (inl (_, _, st, (h, refl, refl)))
+  rule-from (rule-line q w ps f) n p (rule-formula h) = inr (inr (inl h))
+  rule-from (rule-line q w ps f) n p (many-rules h) = inr (inr (inr (inl (h, refl, refl))))
+  rule-from (rule-line q w ps f) n p (rule-passes h) = inr (inr (inr (inr (h, refl, refl))))
 
   search-rule : (r : Rule) → Search (RuleFault fs above r)
   search-rule (rule-line q w ps f) =
     search-iff (rule-to (rule-line q w ps f)) (rule-from (rule-line q w ps f))
     (search-or (search-dec (taken-dec (map field-name fs ++ all-names above) w) 7 (place-of w))
-      (search-or (search-in ps (ParamAt w) (λ v. search-dec (taken-dec (map field-name fs ++ (map rule-name above ++ (w ∷ []))) v) 7 (place-of v)))
-        (search-or (search-pairs ps TwiceAt (λ u v. search-dec (same-word (spelling u) (spelling v)) 7 (place-of v)))
-          (search-or (search-formula fs (above ++ (rule-line q w ps f ∷ [])) ps f)
-            (search-or (search-dec (upto 16 (length above)) 11 q) (search-dec (over-dec (sizes above) ps f) 11 q))))))
+      (search-or
+        (search-among ps (ParamAt w ps)
+          (λ i v. search-dec (taken-dec (map field-name fs ++ (map rule-name above ++ (w ∷ take i ps))) v) 7 (place-of v)))
+        (search-or (search-formula fs (above ++ (rule-line q w ps f ∷ [])) ps f)
+          (search-or (search-dec (upto 16 (length above)) 11 q) (search-dec (over-dec (sizes above) ps f) 11 q)))))
 
 mark-to :
     (fs : List Field) (rs : List Rule) (q : ℕ) (f : Formula) (n p : ℕ)

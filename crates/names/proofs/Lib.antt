@@ -3,3 +3,16 @@ pub mod Faults
 pub mod Places
 pub mod Verdict
 pub mod Lookups
+pub mod Numbering
+pub mod Ordered
+pub mod Terms
+pub mod WeightsKept
+pub mod Settled
+pub mod Runs
+pub mod Parts
+pub mod Taken
+pub mod InOrder
+pub mod WholeLines
+pub mod Loops
+pub mod Covered
+pub mod Trees

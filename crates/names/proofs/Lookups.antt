@@ -8,6 +8,7 @@ use native.Mathlib.Omega.{arith}
 use lib.ListN.{length, getD, take, drop}
 use Rattle.std.proofs.str.Laws.{order}
 use Rattle.std.specs.Orderings.{Decides}
+use Rattle.grammar.specs.declared.table.RuleLine.{RuleLine}
 use Rattle.names.specs.Lists.{Stands, here, there}
 use Rattle.names.specs.Looking.{Tells}
 
@@ -18,6 +19,11 @@ tells false d = λ p. let e = d .1 p in let z : _≡_ {A = ℕ} 0 1 = cc in absu
 pub tells-like : {P Q : Type 0} (b : Bool) → (P → Q) → (Q → P) → Tells P b → Tells Q b
 tells-like true to from t = to t
 tells-like false to from t = λ q. t (from q)
+
+-- what a line reads as past the end of a list
+abbrev pub no-rule-line : RuleLine
+no-rule-line =
+    record { first = 0; name = record { place = 0; length = 0 }; params = []; «param_count» = 0; start = 0; body = 0 }
 
 -- no item below i has the property
 abbrev pub NoneBelow : {A : Type 0} → (A → Type 0) → List A → ℕ → Type 0

@@ -1,4 +1,4 @@
--- Lists: what stands where, what is in a list, what comes before what.
+-- Lists: what stands where, and what is in a list.
 use mathlib.Core.Path.{_≡_, refl, sym, subst}
 use mathlib.Core.List.{List, [], _∷_, _++_, map}
 use mathlib.Core.Logic.{_⊎_, inl, inr, ⊎-elim}
@@ -6,7 +6,7 @@ use Prim.Native.Nat.{ℕ, zero, suc, _+_, _<_, _≤_}
 use native.Mathlib.Omega.{arith}
 use lib.ListN.{length, take}
 use Rattle.grammar.specs.Syntax.{Word, Formula, Rule, rule-line}
-use Rattle.names.specs.Lists.{Stands, here, there, In, this, that, Before, now, later}
+use Rattle.names.specs.Lists.{Stands, here, there, In, this, that}
 use Rattle.names.specs.Faults.{all-names}
 use Rattle.names.proofs.Search.{stands-in}
 
@@ -26,12 +26,6 @@ pub split-in : {A : Type 0} (xs : List A) {ys : List A} {b : A} → In A (xs ++ 
 split-in [] m = inr m
 split-in (x ∷ xs) this = inl this
 split-in (x ∷ xs) (that m) = ⊎-elim (λ h. inl (that h)) (λ h. inr h) (split-in xs m)
-
-pub stands-before : {A : Type 0} {xs : List A} {i j : ℕ} {a b : A} → Stands A xs i a → Stands A xs j b → i < j → Before A xs a b
-stands-before here here h = absurd (omega arith)
-stands-before here (there t) h = now (stands-in t)
-stands-before (there s) here h = absurd (omega arith)
-stands-before (there s) (there t) h = later (stands-before s t (omega arith))
 
 pub stands-take : {A : Type 0} {xs : List A} {i : ℕ} {x : A} (l : ℕ) → Stands A xs i x → i < l → Stands A (take l xs) i x
 stands-take zero s h = absurd (omega arith)

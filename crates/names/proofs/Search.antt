@@ -5,18 +5,15 @@ use mathlib.Core.Logic.{_⊎_, inl, inr, ⊎-elim}
 use Prim.Native.Nat.{ℕ, suc, _<_, _≤_}
 use native.Mathlib.Omega.{arith}
 use Rattle.std.proofs.str.Laws.{order}
-use Rattle.names.specs.Lists.{Stands, here, there, In, this, that, Before, now, later}
+use Rattle.names.specs.Lists.{Stands, here, there, In, this, that}
 use Rattle.names.specs.Faults.{First, NoLater}
 
--- a fault of some item, by its place in the list; of some item; of some two items
+-- a fault of some item, by its place in the list; of some item
 abbrev pub Among : (A : Type 0) → List A → (ℕ → A → ℕ → ℕ → Type 0) → ℕ → ℕ → Type 0
 Among A xs G n p = (i : ℕ) × (x : A) × Stands A xs i x × G i x n p
 
 abbrev pub Some-in : (A : Type 0) → List A → (A → ℕ → ℕ → Type 0) → ℕ → ℕ → Type 0
 Some-in A xs G n p = (x : A) × In A xs x × G x n p
-
-abbrev pub Pair-of : (A : Type 0) → List A → (A → A → ℕ → ℕ → Type 0) → ℕ → ℕ → Type 0
-Pair-of A xs G n p = (a : A) × (b : A) × Before A xs a b × G a b n p
 
 abbrev pub Dec : Type 0 → Type 0
 Dec P = P ⊎ (P → ⊥)
@@ -125,18 +122,6 @@ search-in xs G s =
     (λ n p f. (f .1, stands-in (f .2), f .3))
     (λ n p f. let r = in-stands (f .1) in (r .0, f .0, r .1, f .2))
     (search-among xs (λ i. G) (λ i. s))
-
-split-pair : {A : Type 0} {x : A} {xs : List A} (G : A → A → ℕ → ℕ → Type 0) (n p : ℕ) (a b : A) → Before A (x ∷ xs) a b → G a b n p → Some-in A xs (G x) n p ⊎ Pair-of A xs G n p
-split-pair G n p a b (now m) g = inl (b, m, g)
-split-pair G n p a b (later m) g = inr (a, b, m, g)
-
-pub search-pairs : {A : Type 0} (xs : List A) (G : A → A → ℕ → ℕ → Type 0) → ((a b : A) → Search (G a b)) → Search (Pair-of A xs G)
-search-pairs [] G s = inl (λ n p f. let m = f .2 in elim m [ ])
-search-pairs (x ∷ xs) G s =
-    search-iff
-    (λ n p f. ⊎-elim (λ g. (x, g .0, now (g .1), g .2)) (λ g. (g .0, g .1, later (g .2), g .3)) f)
-    (λ n p f. split-pair G n p (f .0) (f .1) (f .2) (f .3))
-    (search-or (search-in xs (G x) (s x)) (search-pairs xs G s))
 
 -- an element that has a property, or none
 pub find : {A : Type 0} (xs : List A) (P : ℕ → A → Type 0) → ((i : ℕ) (x : A) → Dec (P i x)) → Dec ((i : ℕ) × (x : A) × Stands A xs i x × P i x)

@@ -10,12 +10,12 @@ use Rattle.std.proofs.shelf.Lists.{take-at}
 use Rattle.formula.specs.Trees as tree
 use Rattle.grammar.specs.Syntax.{Word, word, Number, num, Term, constant, bare, raised, lowered, Weights, absent, given, Formula, compared, called, negated, picked, joined, Field, field-line, Rule, rule-line, Mark, mark-line, Sheet, sheet}
 use Rattle.grammar.specs.Tables.{place-of}
-use Rattle.names.specs.Lists.{Stands, here, there, In, this, that, Before, Each, end, item}
+use Rattle.names.specs.Lists.{Stands, here, there, In, this, that, Each, end, item}
 use Rattle.names.specs.Names.{spelling, Means, a-field, a-param, Calls, the-rule, TermIs, constant-is, bare-is, raised-is, lowered-is, FormulaIs, compared-is, called-is, negated-is, picked-is, joined-is, FieldIs, field-is, RulesAre, no-rules, one-rule, Resolves, resolved}
-use Rattle.names.specs.Faults.{Use, term, call, weight, term-uses, terms-uses, weight-uses, uses, unknown-name, unknown-rule, FormulaFault, field-name, rule-name, all-names, FieldFault, field-taken, RuleFault, rule-taken, param-taken, param-twice, rule-formula, MarkFault, mark-formula, Faulty, in-field, in-rule, in-mark, FirstFault, Named, One-verdict}
+use Rattle.names.specs.Faults.{Use, term, call, weight, term-uses, terms-uses, weight-uses, uses, unknown-name, unknown-rule, FormulaFault, field-name, rule-name, all-names, FieldFault, field-taken, RuleFault, rule-taken, param-taken, rule-formula, MarkFault, mark-formula, Faulty, in-field, in-rule, in-mark, FirstFault, Named, One-verdict}
 use Rattle.names.proofs.Search.{Dec, Search, stands-in}
 use Rattle.names.proofs.Faults.{known, callable, first-fault}
-use Rattle.names.proofs.Places.{in-left, in-right, in-map, stands-before, stands-take, stands-after, stands-upto, name-in}
+use Rattle.names.proofs.Places.{in-left, in-right, in-map, stands-take, stands-after, stands-upto, name-in}
 
 -- Where a name stands for one thing, so does a formula
 module _ (fs : List Field) (rs : List Rule) (ps : List Word)
@@ -115,13 +115,14 @@ module _ (fs : List Field) (all : List Rule) (m : Mark) (none : (n p : ℕ) → 
 
   module _ {l p : ℕ} {w : Word} {ps : List Word} {f : Formula} (line : Stands Rule all l (rule-line p w ps f)) where
     params-apart : {i j : ℕ} {u v : Word} → Stands Word ps i u → Stands Word ps j v → spelling u ≡ spelling v → i < j → ⊥
-    params-apart s t e h = none 7 _ (in-rule line (param-twice (stands-before s t h) e))
+    params-apart {j = j} s t e h =
+        none 7 _ (in-rule line (param-taken t (_, in-right (map field-name fs) (in-right (map rule-name (take l all)) (that (stands-in (stands-take j s h)))), e)))
 
     field-param :
         {i j q : ℕ} {u v : Word} {a b : Number}
         → Stands Field fs i (field-line q u a b) → Stands Word ps j v → spelling u ≡ spelling v → ⊥
     field-param s t e =
-        none 7 _ (in-rule line (param-taken (stands-in t) (_, in-left (map rule-name (take l all) ++ (w ∷ [])) (in-map field-name (stands-in s)), e)))
+        none 7 _ (in-rule line (param-taken t (_, in-left _ (in-map field-name (stands-in s)), e)))
 
     rule-means-once : (v : Word) (x y : tree.Name) → Means fs ps v x → Means fs ps v y → x ≡ y
     rule-means-once v _ _ (a-field s e) (a-field t d) = ap tree.field (field-once s t (e ∙ sym d))

@@ -8,7 +8,7 @@ use lib.ListN.{length, take}
 use Rattle.formula.specs.Trees as tree
 use Rattle.grammar.specs.Syntax.{Word, Number, num, Term, constant, bare, raised, lowered, Weights, absent, given, Formula, compared, called, negated, picked, joined, Field, field-line, Rule, rule-line, Mark, mark-line, Sheet, sheet}
 use Rattle.grammar.specs.Tables.{place-of, size, Over}
-use Rattle.names.specs.Lists.{Stands, In, Before}
+use Rattle.names.specs.Lists.{Stands, In}
 use Rattle.names.specs.Names.{spelling, Means, Calls, Resolves}
 
 -- What a formula uses
@@ -116,17 +116,11 @@ pub data RuleFault (fs : List Field) (above : List Rule) : Rule → (number plac
       {p : ℕ} {w : Word} {ps : List Word} {f : Formula}
       → Taken (map field-name fs ++ all-names above) w
       → RuleFault fs above (rule-line p w ps f) 7 (place-of w)
-  -- a parameter's name is that of a field, of a rule above or of its own rule
+  -- a parameter's name is that of a field, of a rule above, of its own rule or of a parameter before it
   param-taken :
-      {p : ℕ} {w v : Word} {ps : List Word} {f : Formula}
-      → In Word ps v
-      → Taken (map field-name fs ++ (map rule-name above ++ (w ∷ []))) v
-      → RuleFault fs above (rule-line p w ps f) 7 (place-of v)
-  -- a parameter's name is that of one before it
-  param-twice :
-      {p : ℕ} {w u v : Word} {ps : List Word} {f : Formula}
-      → Before Word ps u v
-      → spelling u ≡ spelling v
+      {p i : ℕ} {w v : Word} {ps : List Word} {f : Formula}
+      → Stands Word ps i v
+      → Taken (map field-name fs ++ (map rule-name above ++ (w ∷ take i ps))) v
       → RuleFault fs above (rule-line p w ps f) 7 (place-of v)
   -- the formula is at fault: the rule may call itself and the rules above it
   rule-formula :

@@ -12,11 +12,6 @@ pub data In (A : Type 0) : List A → A → Type 0 where
   this : {x : A} {xs : List A} → In A (x ∷ xs) x
   that : {x y : A} {xs : List A} → In A xs x → In A (y ∷ xs) x
 
--- a stands before b
-pub data Before (A : Type 0) : List A → A → A → Type 0 where
-  now : {a b : A} {xs : List A} → In A xs b → Before A (a ∷ xs) a b
-  later : {a b c : A} {xs : List A} → Before A xs a b → Before A (c ∷ xs) a b
-
 -- the two lists have the same length, and R holds of each two items at one place
 pub data Each (A B : Type 0) (R : A → B → Type 0) : List A → List B → Type 0 where
   end : Each A B R [] []

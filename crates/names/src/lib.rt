@@ -1,4 +1,7 @@
 // The names of a sheet: its first fault, or the sheet that it comes to.
+mod declared;
+mod entries;
+mod lines;
 mod lookup;
 ghost use Rattle.names.specs.Faults.{One-verdict};
 

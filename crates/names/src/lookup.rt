@@ -8,7 +8,7 @@ ghost use lib.ListN.{take};
 ghost use Rattle.std.specs.Slices.{found};
 ghost use Rattle.grammar.specs.Tables.{word-of};
 ghost use Rattle.names.specs.Names.{spelling};
-ghost use Rattle.names.specs.Looking.{Tells, Found, SomeOf, Alike, Declares};
+ghost use Rattle.names.specs.Looking.{Tells, Found, SomeOf, Alike};
 
 // The bytes of a name; a span past the end of the text is cut there.
 fn spelled<'a>(text: &'a [u8], word: Word) -> &'a [u8]
@@ -73,4 +73,19 @@ pub(crate) fn find_rule(text: &[u8], rules: &[RuleLine; 16], below: usize, name:
         i += 1;
     }
     None
+}
+
+// Whether a rule below `below` has that name and another number of parameters.
+pub(crate) fn has_other_count(text: &[u8], rules: &[RuleLine; 16], below: usize, name: Word, count: usize) -> bool
+    ensures { λ r. ⌜ Tells (SomeOf (λ l. Alike (now (text .entry)) (l .name) name × (l .«param_count» ≡ count → ⊥)) (take below (now (rules .entry)))) r ⌝ }
+{
+    let mut i = 0;
+    while i < below && i < 16 {
+        let rule = rules[i];
+        if alike(text, rule.name, name) && rule.param_count != count {
+            return true;
+        }
+        i += 1;
+    }
+    false
 }
