@@ -1,3 +1,5 @@
 pub mod Syntax
 pub mod Grammar
+pub mod Refusal
 pub mod Laws
+pub mod Moves
