@@ -172,6 +172,24 @@ pub data Move : State → Tok → Need → State → Type 0 where
       → Move (numbered j o) colon free (expects some-number (a-unit (allowance o) (only j) o))
   weight-none : {c : Comparison} {j : Join} {o : Open} → Move (numbered j o) (sign c) free (term (more (only j) o))
 
+-- something is still to come
+abbrev pub Unfinished : State → Type 0
+Unfinished (expects k s) = Unit {0}
+Unfinished fields = Unit {0}
+Unfinished rules = Unit {0}
+Unfinished ended = ⊥
+Unfinished (names s) = Unit {0}
+Unfinished (more-names s) = Unit {0}
+Unfinished (term s) = Unit {0}
+Unfinished (summed s) = Unit {0}
+Unfinished (terms s) = Unit {0}
+Unfinished (more-terms s) = Unit {0}
+Unfinished (a-unit d l o) = Unit {0}
+Unfinished (named l o) = Unit {0}
+Unfinished (more l o) = Unit {0}
+Unfinished (after-join j o) = Unit {0}
+Unfinished (numbered j o) = Unit {0}
+
 -- Halts s xs n r: from the state s the tokens xs are taken up to r, where they cannot go on, by the number n
 pub data Halts : State → Tokens → ℕ → Tokens → Type 0 where
   goes-on :
@@ -194,7 +212,7 @@ pub data Halts : State → Tokens → ℕ → Tokens → Type 0 where
       → Move s t (like l j) u
       → (Fits strict l j → ⊥)
       → Halts s (at t p ∷ xs) 6 (at t p ∷ xs)
-  halts-end : {s : State} → (s ≡ ended → ⊥) → Halts s [] 4 []
+  halts-end : {s : State} → Unfinished s → Halts s [] 4 []
 
 -- where the tokens begin, in a text of that many bytes
 abbrev pub place-of : ℕ → Tokens → ℕ
