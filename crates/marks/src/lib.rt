@@ -1,0 +1,1 @@
+// Sets of marks: definitions that stores and runs share; the code stands in the crates above.

@@ -1,0 +1,6 @@
+pub mod Bytes
+pub mod Tokens
+pub mod Cutting
+pub mod Laws
+pub mod Answers
+pub mod Scanning

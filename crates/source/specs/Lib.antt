@@ -1,0 +1,3 @@
+pub mod Waiting
+pub mod Xorshift
+pub mod Sources
