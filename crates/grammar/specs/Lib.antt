@@ -4,4 +4,6 @@ pub mod Refusal
 pub mod Tables
 pub mod Written
 pub mod Laws
+pub mod Tokens
 pub mod Moves
+pub mod Parsing

@@ -1,0 +1,97 @@
+// The token ahead, as the grammar sees it.
+use crate::table::Word;
+use formula::Comparison;
+use formula::Join;
+use refusal::Fault;
+use refusal::Refusal;
+use signs::Next;
+use signs::Sign;
+use signs::Token;
+ghost use mathlib.Core.Path.{_≡_};
+ghost use Prim.Native.Nat.{_<_, _≤_};
+ghost use lib.ListN.{length};
+ghost use Rattle.grammar.specs.Parsing.{word-class, sign-class, Peeked};
+
+// What a token is to the grammar: seven words are reserved, and every other word is a name.
+#[derive(Clone, Copy)]
+pub(crate) enum Class {
+    End,
+    Name(Word),
+    Number(u16),
+    Field,
+    Rule,
+    Mark,
+    Not,
+    Pick,
+    Join(Join),
+    Compare(Comparison),
+    Opening,
+    Closing,
+    Comma,
+    Semicolon,
+    Colon,
+    Plus,
+    Minus,
+}
+
+// The token ahead: its class, its place and the place after it. At the end of the text both are its length.
+#[derive(Clone, Copy)]
+pub(crate) struct Ahead {
+    pub(crate) class: Class,
+    pub(crate) place: usize,
+    pub(crate) end: usize,
+}
+
+fn word_class(word: &[u8], place: usize) -> Class
+    ensures { λ r. ⌜ r ≡ word-class (now (word .entry)) place ⌝ }
+{
+    if word == b"field" {
+        Class::Field
+    } else if word == b"rule" {
+        Class::Rule
+    } else if word == b"mark" {
+        Class::Mark
+    } else if word == b"and" {
+        Class::Join(Join::And)
+    } else if word == b"or" {
+        Class::Join(Join::Or)
+    } else if word == b"not" {
+        Class::Not
+    } else if word == b"pick" {
+        Class::Pick
+    } else {
+        Class::Name(Word { place, length: word.len() })
+    }
+}
+
+fn sign_class(sign: Sign) -> Class
+    ensures { λ r. ⌜ r ≡ sign-class sign ⌝ }
+{
+    match sign {
+        Sign::Open => Class::Opening,
+        Sign::Close => Class::Closing,
+        Sign::Comma => Class::Comma,
+        Sign::Semicolon => Class::Semicolon,
+        Sign::Colon => Class::Colon,
+        Sign::Plus => Class::Plus,
+        Sign::Minus => Class::Minus,
+        Sign::Compare(c) => Class::Compare(c),
+    }
+}
+
+// The token that comes next from `at` on.
+pub(crate) fn peek(text: &[u8], at: usize) -> Ahead
+    ensures { λ r. ⌜ Peeked (now (text .entry)) at r ⌝ }
+{
+    match signs::next(text, at) {
+        Next::Token(t) => {
+            let class = match t.token {
+                Token::Word(w) => word_class(w, t.place),
+                Token::Number(n) => Class::Number(n),
+                Token::Sign(s) => sign_class(s),
+            };
+            Ahead { class, place: t.place, end: t.end }
+        }
+        _ => Ahead { class: Class::End, place: text.len(), end: text.len() },
+    }
+}
