@@ -25,15 +25,6 @@ pub data Path (L : Limits) : State → Tokens → State → Type 0 where
       → Path L u xs v
       → Path L s (at t p ∷ xs) v
 
-pub is-once : {k : Shape} {t : Tok} (i j : Is k t) → i ≡ j
-is-once is-name is-name = refl
-is-once is-number is-number = refl
-is-once is-sign is-sign = refl
-is-once is-field is-field = refl
-is-once is-opening is-opening = refl
-is-once is-semicolon is-semicolon = refl
-is-once is-colon is-colon = refl
-
 -- a token moves a state in one way
 pub move-once : {s u v : State} {t : Tok} {n m : Need} → Move s t n u → Move s t m v → (n ≡ m) × (u ≡ v)
 move-once (asked i) (asked j) = (refl, refl)

@@ -5,7 +5,7 @@ use Prim.Native.Nat.{ℕ, _-_}
 use Rattle.formula.specs.declared.Comparison.{Comparison}
 use Rattle.formula.specs.declared.Join.{Join}
 use Rattle.grammar.specs.Grammar.{Tok, name, number, field, rule, mark, not, pick, join, sign, opening, closing, comma, semicolon, colon, plus, minus, at, Tokens, Level, any, only, Limits, strict, loose, Fits}
-use Rattle.grammar.specs.Moves.{Shape, some-name, some-number, some-sign, field-word, opening-sign, semicolon-sign, colon-sign, Is, is-name, is-number, is-sign, is-field, is-opening, is-semicolon, is-colon, Line, of-rule, of-mark, Open, whole, inner, allowance, State, expects, fields, rules, ended, names, more-names, term, summed, terms, more-terms, a-unit, named, more, after-join, numbered, field-rest, start, rule-body, rule-rest, compared-with, Need, free, level, like, Allowed, NoSum, Move, asked, line-field, no-field, line-rule, line-mark, no-names, first-name, names-end, next-name, term-number, term-name, sum-plus, sum-minus, no-sum, no-terms, first-number, first-term, terms-end, next-term, unit-number, unit-name, unit-not, unit-pick, unit-bracket, unit-call, unit-compares, next-join, bracket-end, rule-end, mark-end, join-number, join-name, join-opens, weight-colon, weight-none}
+use Rattle.grammar.specs.Moves.{Shape, some-name, some-number, some-sign, field-word, opening-sign, closing-sign, semicolon-sign, colon-sign, Is, is-name, is-number, is-sign, is-field, is-opening, is-closing, is-semicolon, is-colon, Line, of-rule, of-mark, Open, whole, inner, allowance, State, expects, fields, rules, ended, names, more-names, term, summed, terms, more-terms, a-unit, named, more, after-join, numbered, field-rest, start, rule-body, rule-rest, compared-with, Need, free, level, like, Allowed, NoSum, Move, asked, line-field, no-field, line-rule, line-mark, no-names, first-name, names-end, next-name, term-number, term-name, sum-plus, sum-minus, no-sum, no-terms, first-number, first-term, terms-end, next-term, unit-number, unit-name, unit-not, unit-pick, unit-bracket, unit-call, unit-compares, next-join, bracket-end, rule-end, mark-end, join-number, join-name, join-opens, weight-colon, weight-none}
 
 data Shaped (k : Shape) (t : Tok) : Type 0 where
   like-it : Is k t → Shaped k t
@@ -66,6 +66,16 @@ is-of opening-sign t =
       | closing ↦ unlike (λ i. elim i [ ]) | comma ↦ unlike (λ i. elim i [ ])
       | semicolon ↦ unlike (λ i. elim i [ ]) | colon ↦ unlike (λ i. elim i [ ])
       | plus ↦ unlike (λ i. elim i [ ]) | minus ↦ unlike (λ i. elim i [ ]) ]
+is-of closing-sign t =
+    elim t as (Shaped closing-sign) [
+      name w ↦ unlike (λ i. elim i [ ]) | number n ↦ unlike (λ i. elim i [ ])
+      | field ↦ unlike (λ i. elim i [ ]) | rule ↦ unlike (λ i. elim i [ ])
+      | mark ↦ unlike (λ i. elim i [ ]) | not ↦ unlike (λ i. elim i [ ])
+      | pick ↦ unlike (λ i. elim i [ ]) | join j ↦ unlike (λ i. elim i [ ])
+      | sign c ↦ unlike (λ i. elim i [ ]) | opening ↦ unlike (λ i. elim i [ ])
+      | closing ↦ like-it is-closing | comma ↦ unlike (λ i. elim i [ ])
+      | semicolon ↦ unlike (λ i. elim i [ ]) | colon ↦ unlike (λ i. elim i [ ])
+      | plus ↦ unlike (λ i. elim i [ ]) | minus ↦ unlike (λ i. elim i [ ]) ]
 is-of semicolon-sign t =
     elim t as (Shaped semicolon-sign) [
       name w ↦ unlike (λ i. elim i [ ]) | number n ↦ unlike (λ i. elim i [ ])
@@ -108,7 +118,7 @@ sum-of t =
       | sign c ↦ neither tt | opening ↦ neither tt | closing ↦ neither tt | comma ↦ neither tt
       | semicolon ↦ neither tt | colon ↦ neither tt | plus ↦ by-plus | minus ↦ by-minus ]
 
-not-summed : {t : Tok} {n : Need} {s u : State} → NoSum t → ((m : Need) (v : State) → Move s t m v → ⊥) → Move (summed s) t n u → ⊥
+pub not-summed : {t : Tok} {n : Need} {s u : State} → NoSum t → ((m : Need) (v : State) → Move s t m v → ⊥) → Move (summed s) t n u → ⊥
 not-summed h k sum-plus = h
 not-summed h k sum-minus = h
 not-summed h k (no-sum z m) = k _ _ m
@@ -119,7 +129,7 @@ summed-of s by-minus k = moves sum-minus
 summed-of s (neither h) (moves m) = moves (no-sum h m)
 summed-of s (neither h) (stays k) = stays (λ n u m. not-summed h k m)
 
-not-named : {t : Tok} {n : Need} {l : Level} {o : Open} {u : State} → (Is opening-sign t → ⊥) → ((m : Need) (v : State) → Move (summed (compared-with l o)) t m v → ⊥) → Move (named l o) t n u → ⊥
+pub not-named : {t : Tok} {n : Need} {l : Level} {o : Open} {u : State} → (Is opening-sign t → ⊥) → ((m : Need) (v : State) → Move (summed (compared-with l o)) t m v → ⊥) → Move (named l o) t n u → ⊥
 not-named h k unit-call = h is-opening
 not-named h k (unit-compares m) = k _ _ m
 
@@ -128,7 +138,7 @@ named-of l o (like-it is-opening) k = moves unit-call
 named-of l o (unlike h) (moves m) = moves (unit-compares m)
 named-of l o (unlike h) (stays k) = stays (λ n u m. not-named h k m)
 
-not-field : {t : Tok} {n : Need} {u : State} → (Is field-word t → ⊥) → ((m : Need) (v : State) → Move rules t m v → ⊥) → Move fields t n u → ⊥
+pub not-field : {t : Tok} {n : Need} {u : State} → (Is field-word t → ⊥) → ((m : Need) (v : State) → Move rules t m v → ⊥) → Move fields t n u → ⊥
 not-field h k line-field = h is-field
 not-field h k (no-field m) = k _ _ m
 
@@ -273,7 +283,7 @@ numbered-of j o t =
       | semicolon ↦ stays (λ _ _ m. elim m [ ]) | colon ↦ moves weight-colon
       | plus ↦ stays (λ _ _ m. elim m [ ]) | minus ↦ stays (λ _ _ m. elim m [ ]) ]
 
-not-joined : {t : Tok} {n : Need} {j : Join} {o : Open} {u : State} → ((m : Need) (v : State) → Move (a-unit (allowance o) (only j) o) t m v → ⊥) → Move (after-join j o) t n u → ⊥
+pub not-joined : {t : Tok} {n : Need} {j : Join} {o : Open} {u : State} → ((m : Need) (v : State) → Move (a-unit (allowance o) (only j) o) t m v → ⊥) → Move (after-join j o) t n u → ⊥
 not-joined k join-number = k _ _ unit-number
 not-joined k join-name = k _ _ unit-name
 not-joined k (join-opens m) = k _ _ m

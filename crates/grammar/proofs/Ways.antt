@@ -6,7 +6,7 @@ use Rattle.formula.specs.declared.Comparison.{Comparison}
 use Rattle.formula.specs.declared.Comparison.the-variants.{Equal}
 use Rattle.formula.specs.declared.Join.{Join}
 use Rattle.grammar.specs.Grammar.{Tok, name, number, field, rule, mark, not, pick, join, sign, opening, closing, comma, semicolon, colon, plus, minus, at, Tokens, Level, any, only, Limits, strict, loose, Fits}
-use Rattle.grammar.specs.Moves.{Shape, some-name, some-number, some-sign, field-word, opening-sign, semicolon-sign, colon-sign, Is, is-name, is-number, is-sign, is-field, is-opening, is-semicolon, is-colon, Line, of-rule, of-mark, Open, whole, inner, allowance, State, expects, fields, rules, ended, names, more-names, term, summed, terms, more-terms, a-unit, named, more, after-join, numbered, field-rest, start, rule-body, rule-rest, compared-with, Need, free, level, like, Allowed, NoSum, Move, asked, line-field, no-field, line-rule, line-mark, no-names, first-name, names-end, next-name, term-number, term-name, sum-plus, sum-minus, no-sum, no-terms, first-number, first-term, terms-end, next-term, unit-number, unit-name, unit-not, unit-pick, unit-bracket, unit-call, unit-compares, next-join, bracket-end, rule-end, mark-end, join-number, join-name, join-opens, weight-colon, weight-none}
+use Rattle.grammar.specs.Moves.{Shape, some-name, some-number, some-sign, field-word, opening-sign, closing-sign, semicolon-sign, colon-sign, Is, is-name, is-number, is-sign, is-field, is-opening, is-closing, is-semicolon, is-colon, Line, of-rule, of-mark, Open, whole, inner, allowance, State, expects, fields, rules, ended, names, more-names, term, summed, terms, more-terms, a-unit, named, more, after-join, numbered, field-rest, start, rule-body, rule-rest, compared-with, Need, free, level, like, Allowed, NoSum, Move, asked, line-field, no-field, line-rule, line-mark, no-names, first-name, names-end, next-name, term-number, term-name, sum-plus, sum-minus, no-sum, no-terms, first-number, first-term, terms-end, next-term, unit-number, unit-name, unit-not, unit-pick, unit-bracket, unit-call, unit-compares, next-join, bracket-end, rule-end, mark-end, join-number, join-name, join-opens, weight-colon, weight-none}
 use Rattle.grammar.proofs.Accepts.{Accepts, accepted, takes}
 
 -- tokens that are taken to the end
@@ -24,6 +24,7 @@ module _ (L : Limits) where
   any-of some-sign w = by (asked (is-sign {c = Equal})) w
   any-of field-word w = by (asked is-field) w
   any-of opening-sign w = by (asked is-opening) w
+  any-of closing-sign w = by (asked is-closing) w
   any-of semicolon-sign w = by (asked is-semicolon) w
   any-of colon-sign w = by (asked is-colon) w
 

@@ -10,7 +10,7 @@ use Rattle.grammar.specs.Grammar.{Tok, name, number, field, rule, mark, not, p
 
 -- a token that is asked for by its kind
 pub data Shape : Type 0 where
-  some-name some-number some-sign field-word opening-sign semicolon-sign colon-sign : Shape
+  some-name some-number some-sign field-word opening-sign closing-sign semicolon-sign colon-sign : Shape
 
 -- the token is of that kind
 pub data Is : Shape → Tok → Type 0 where
@@ -19,6 +19,7 @@ pub data Is : Shape → Tok → Type 0 where
   is-sign : {c : Comparison} → Is some-sign (sign c)
   is-field : Is field-word field
   is-opening : Is opening-sign opening
+  is-closing : Is closing-sign closing
   is-semicolon : Is semicolon-sign semicolon
   is-colon : Is colon-sign colon
 

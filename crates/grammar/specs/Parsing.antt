@@ -19,14 +19,19 @@ use Rattle.signs.specs.declared.token.Sign.the-variants as signs
 use Rattle.signs.specs.Tokens.{TokAt}
 use Rattle.signs.specs.Cutting.{CutFrom}
 use Rattle.grammar.specs.declared.table.Word.{Word as WordEntry}
+use Rattle.grammar.specs.declared.table.Number.{Number as NumberEntry}
+use Rattle.grammar.specs.declared.table.Term.{Term as TermEntry}
+use Rattle.grammar.specs.declared.token.Read.{Read}
+use Rattle.grammar.specs.declared.token.Fixed.{Fixed}
+use Rattle.grammar.specs.declared.token.Fixed.the-variants as fixed
 use Rattle.grammar.specs.declared.token.Class.{Class}
 use Rattle.grammar.specs.declared.token.Class.the-variants as class
 use Rattle.grammar.specs.declared.token.Ahead.{Ahead}
-use Rattle.grammar.specs.Syntax.{Word, word}
-use Rattle.grammar.specs.Grammar.{Tok, name, number, field, rule, mark, not, pick, join, sign, opening, closing, comma, semicolon, colon, plus, minus, at, Tokens}
+use Rattle.grammar.specs.Syntax.{Word, word, Number, num, Term, bare}
+use Rattle.grammar.specs.Grammar.{Tok, name, number, field, rule, mark, not, pick, join, sign, opening, closing, comma, semicolon, colon, plus, minus, at, Tokens, IsName, IsTerm}
 use Rattle.grammar.specs.Tokens.{tokens}
-use Rattle.grammar.specs.Tables.{word-of}
-use Rattle.grammar.specs.Moves.{State, Halts, place-of}
+use Rattle.grammar.specs.Tables.{word-of, number-of, term-of}
+use Rattle.grammar.specs.Moves.{Shape, some-name, some-number, some-sign, opening-sign, closing-sign, semicolon-sign, colon-sign, Is, State, expects, term, summed, Halts, place-of}
 
 -- from place p on the text is cut into the tokens xs
 pub data Left (text : List ℕ) (p : ℕ) : Tokens → Type 0 where
@@ -87,3 +92,89 @@ pub data Seen (text : List ℕ) : Tokens → Class → (place end : ℕ) → Typ
 pub record Peeked (text : List ℕ) (p : ℕ) (a : Ahead) : Type 0 where
   pub onward : (a .class ≡ class.End → ⊥) → (p < a .end) × (a .end ≤ length text)
   pub seen : (xs : Tokens) → Left text p xs → Seen text xs (a .class) (a .place) (a .end)
+
+-- Stopped text C before xs f: whatever c is to come, from the state `before c` the tokens xs halt with the fault f
+pub record Stopped (text : List ℕ) (C : Type 0) (before : C → State) (xs : Tokens) (f : Fault) : Type 0 where
+  pub rest : Tokens
+  pub there : f .place ≡ place-of (length text) rest
+  pub halts : (c : C) → Halts (before c) xs (table.number (f .refusal)) rest
+
+-- Came text C before after xs q Item: the tokens xs go on, as `Item` says, with those left at place q;
+-- and whatever c is to come, what halts there from `after c` halts from `before c` at xs
+pub record Came
+    (text : List ℕ) (C : Type 0) (before after : C → State) (xs : Tokens) (q : ℕ) (Item : Tokens → Type 0)
+    : Type 0 where
+  pub rest : Tokens
+  pub remains : Left text q rest
+  pub goes : (c : C) (n : ℕ) (r : Tokens) → Halts (after c) rest n r → Halts (before c) xs n r
+  pub item : Item rest
+
+-- what reading an item from place p answers: where it ends and what it is; or the fault
+abbrev pub Outcome :
+    (text : List ℕ) (p : ℕ) (C : Type 0) (before after : C → State) (X : Type 0)
+    → (X → Tokens → Tokens → Type 0)
+    → Result (Read X) Fault
+    → Type 0
+Outcome text p C before after X Item (Ok x) =
+    (p < x .end) × (x .end ≤ length text)
+    × ((xs : Tokens) → Left text p xs → Came text C before after xs (x .end) (Item (x .value) xs))
+Outcome text p C before after X Item (Err f) = (xs : Tokens) → Left text p xs → Stopped text C before xs f
+
+-- a number
+pub data IsNumber : Tokens → Tokens → Number → Type 0 where
+  a-number : {n p : ℕ} {r : Tokens} → IsNumber (at (number n) p ∷ r) r (num n p)
+
+-- a sign of comparison
+pub data IsSign : Tokens → Tokens → Comparison → Type 0 where
+  a-sign : {c : Comparison} {p : ℕ} {r : Tokens} → IsSign (at (sign c) p ∷ r) r c
+
+abbrev pub NameRead : List ℕ → ℕ → Result (Read WordEntry) Fault → Type 0
+NameRead text p r =
+    Outcome text p State (expects some-name) (λ s. s) WordEntry (λ v xs us. IsName xs us (word-of text v)) r
+
+abbrev pub NumberRead : List ℕ → ℕ → Result (Read NumberEntry) Fault → Type 0
+NumberRead text p r =
+    Outcome text p State (expects some-number) (λ s. s) NumberEntry (λ v xs us. IsNumber xs us (number-of v)) r
+
+abbrev pub SignRead : List ℕ → ℕ → Result (Read Comparison) Fault → Type 0
+SignRead text p r =
+    Outcome text p State (expects some-sign) (λ s. s) Comparison (λ c xs us. IsSign xs us c) r
+
+abbrev pub TermRead : List ℕ → ℕ → Result (Read TermEntry) Fault → Type 0
+TermRead text p r =
+    Outcome text p State term (λ s. s) TermEntry (λ t xs us. IsTerm xs us (term-of text t)) r
+
+-- the rest of a term, after its name: it may be nothing
+abbrev pub SumRead : List ℕ → ℕ → WordEntry → Result (Read TermEntry) Fault → Type 0
+SumRead text p v (Ok x) =
+    (p ≤ x .end) × (x .end ≤ length text)
+    × ((xs : Tokens) → Left text p xs → Came text State summed (λ s. s) xs (x .end) (λ us.
+        (w : List ℕ) (i : ℕ) → word-of text v ≡ word w i → IsTerm (at (name w) i ∷ xs) us (term-of text (x .value))))
+SumRead text p v (Err f) = (xs : Tokens) → Left text p xs → Stopped text State summed xs f
+
+-- the class of a sign that is asked for
+abbrev pub fixed-class : Fixed → Class
+fixed-class fixed.Opening = class.Opening
+fixed-class fixed.Closing = class.Closing
+fixed-class fixed.Semicolon = class.Semicolon
+fixed-class fixed.Colon = class.Colon
+
+-- its kind
+abbrev pub fixed-shape : Fixed → Shape
+fixed-shape fixed.Opening = opening-sign
+fixed-shape fixed.Closing = closing-sign
+fixed-shape fixed.Semicolon = semicolon-sign
+fixed-shape fixed.Colon = colon-sign
+
+-- the tokens begin with one of the kind, and go on with r
+pub data FirstIs (k : Shape) : Tokens → Tokens → Type 0 where
+  first-is : {t : Tok} {p : ℕ} {r : Tokens} → Is k t → FirstIs k (at t p ∷ r) r
+
+-- the place after a sign that is asked for, or the fault at another token
+abbrev pub Expected : List ℕ → ℕ → Shape → Result ℕ Fault → Type 0
+Expected text p k (Ok q) =
+    (p < q) × (q ≤ length text)
+    × ((xs : Tokens) → Left text p xs → (us : Tokens) × FirstIs k xs us × Left text q us)
+Expected text p k (Err f) =
+    (xs : Tokens) → Left text p xs
+    → (table.number (f .refusal) ≡ 4) × (f .place ≡ place-of (length text) xs) × ((us : Tokens) → FirstIs k xs us → ⊥)

@@ -1,5 +1,6 @@
 // The grammar of a sheet.
 pub mod table;
+mod term;
 mod token;
 ghost use Rattle.grammar.specs.Laws.{Unambiguous, One-verdict, Read-back, Well-read};
 
