@@ -21,6 +21,7 @@ use Rattle.signs.specs.Cutting.{CutFrom}
 use Rattle.grammar.specs.declared.table.Word.{Word as WordEntry}
 use Rattle.grammar.specs.declared.table.Number.{Number as NumberEntry}
 use Rattle.grammar.specs.declared.table.Term.{Term as TermEntry}
+use Rattle.grammar.specs.declared.list.Few.{Few}
 use Rattle.grammar.specs.declared.token.Read.{Read}
 use Rattle.grammar.specs.declared.token.Fixed.{Fixed}
 use Rattle.grammar.specs.declared.token.Fixed.the-variants as fixed
@@ -28,10 +29,10 @@ use Rattle.grammar.specs.declared.token.Class.{Class}
 use Rattle.grammar.specs.declared.token.Class.the-variants as class
 use Rattle.grammar.specs.declared.token.Ahead.{Ahead}
 use Rattle.grammar.specs.Syntax.{Word, word, Number, num, Term, bare}
-use Rattle.grammar.specs.Grammar.{Tok, name, number, field, rule, mark, not, pick, join, sign, opening, closing, comma, semicolon, colon, plus, minus, at, Tokens, IsName, IsTerm}
+use Rattle.grammar.specs.Grammar.{Tok, name, number, field, rule, mark, not, pick, join, sign, opening, closing, comma, semicolon, colon, plus, minus, at, Tokens, Parted, Listed, IsName, IsTerm}
 use Rattle.grammar.specs.Tokens.{tokens}
 use Rattle.grammar.specs.Tables.{word-of, number-of, term-of}
-use Rattle.grammar.specs.Moves.{Shape, some-name, some-number, some-sign, opening-sign, closing-sign, semicolon-sign, colon-sign, Is, State, expects, term, summed, Halts, place-of}
+use Rattle.grammar.specs.Moves.{Shape, some-name, some-number, some-sign, opening-sign, closing-sign, semicolon-sign, colon-sign, Is, State, expects, names, more-names, term, summed, terms, more-terms, Halts, place-of}
 
 -- from place p on the text is cut into the tokens xs
 pub data Left (text : List ℕ) (p : ℕ) : Tokens → Type 0 where
@@ -178,3 +179,35 @@ Expected text p k (Ok q) =
 Expected text p k (Err f) =
     (xs : Tokens) → Left text p xs
     → (table.number (f .refusal) ≡ 4) × (f .place ≡ place-of (length text) xs) × ((us : Tokens) → FirstIs k xs us → ⊥)
+
+-- the list counts all the items, and holds the first four
+pub record Holds4 (X : Type 0) (list : Few X) (all : List X) : Type 0 where
+  pub room : length (list .items) ≡ 4
+  pub counts : list .count ≡ length all
+  pub holds : take (list .count) (list .items) ≡ take 4 all
+
+-- items in brackets, as entries of a text
+abbrev pub ListRead :
+    (text : List ℕ) (p : ℕ) (X A : Type 0) → (X → A) → (Tokens → Tokens → A → Type 0) → (State → State)
+    → Result (Read (Few X)) Fault
+    → Type 0
+ListRead text p X A of Item listed r =
+    Outcome text p State listed (λ s. s) (Few X) (λ v xs us. (all : List X) × Holds4 X v all × Listed A Item xs us (map of all)) r
+
+abbrev pub TermsRead : List ℕ → ℕ → Result (Read (Few TermEntry)) Fault → Type 0
+TermsRead text p r = ListRead text p TermEntry Term (term-of text) IsTerm terms r
+
+abbrev pub NamesRead : List ℕ → ℕ → Result (Read (Few WordEntry)) Fault → Type 0
+NamesRead text p r = ListRead text p WordEntry Word (word-of text) IsName names r
+
+-- Begun ..: of the items in brackets that xs begins with, those of the list are read, and one more is due at place q
+pub record Begun
+    (text : List ℕ) (X A : Type 0) (of : X → A) (Item : Tokens → Tokens → A → Type 0) (listed due : State → State)
+    (xs : Tokens) (list : Few X) (q : ℕ)
+    : Type 0 where
+  pub rest : Tokens
+  pub remains : Left text q rest
+  pub goes : (s : State) (n : ℕ) (r : Tokens) → Halts (due s) rest n r → Halts (listed s) xs n r
+  pub all : List X
+  pub held : Holds4 X list all
+  pub joins : (r : Tokens) (bs : List A) → Parted A Item rest r bs → Parted A Item xs r (map of all ++ bs)

@@ -1,4 +1,5 @@
 // The grammar of a sheet.
+mod list;
 pub mod table;
 mod term;
 mod token;
