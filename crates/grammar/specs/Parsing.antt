@@ -21,6 +21,12 @@ use Rattle.signs.specs.Cutting.{CutFrom}
 use Rattle.grammar.specs.declared.table.Word.{Word as WordEntry}
 use Rattle.grammar.specs.declared.table.Number.{Number as NumberEntry}
 use Rattle.grammar.specs.declared.table.Term.{Term as TermEntry}
+use Rattle.grammar.specs.declared.table.Weights.{Weights as WeightsEntry}
+use Rattle.grammar.specs.declared.table.Node.{Node}
+use Rattle.grammar.specs.declared.table.Table.{Table}
+use Rattle.grammar.specs.declared.formula.Part.{Part}
+use Rattle.grammar.specs.declared.formula.Level.{Level as LevelEntry}
+use Rattle.grammar.specs.declared.formula.Level.the-variants as level
 use Rattle.grammar.specs.declared.list.Few.{Few}
 use Rattle.grammar.specs.declared.token.Read.{Read}
 use Rattle.grammar.specs.declared.token.Fixed.{Fixed}
@@ -28,11 +34,11 @@ use Rattle.grammar.specs.declared.token.Fixed.the-variants as fixed
 use Rattle.grammar.specs.declared.token.Class.{Class}
 use Rattle.grammar.specs.declared.token.Class.the-variants as class
 use Rattle.grammar.specs.declared.token.Ahead.{Ahead}
-use Rattle.grammar.specs.Syntax.{Word, word, Number, num, Term, bare}
-use Rattle.grammar.specs.Grammar.{Tok, name, number, field, rule, mark, not, pick, join, sign, opening, closing, comma, semicolon, colon, plus, minus, at, Tokens, Parted, Listed, IsName, IsTerm}
+use Rattle.grammar.specs.Syntax.{Word, word, Number, num, Term, Formula}
+use Rattle.grammar.specs.Grammar.{Tok, name, number, field, rule, mark, not, pick, join, sign, opening, closing, comma, semicolon, colon, plus, minus, at, Tokens, Parted, Listed, IsName, IsTerm, IsWeights, Level, any, only, Kind, unit, formula, Reads}
 use Rattle.grammar.specs.Tokens.{tokens}
-use Rattle.grammar.specs.Tables.{word-of, number-of, term-of}
-use Rattle.grammar.specs.Moves.{Shape, some-name, some-number, some-sign, opening-sign, closing-sign, semicolon-sign, colon-sign, Is, State, expects, names, more-names, term, summed, terms, more-terms, Halts, place-of}
+use Rattle.grammar.specs.Tables.{word-of, number-of, term-of, weights-of, node-at, Entries, size, joins}
+use Rattle.grammar.specs.Moves.{Shape, some-name, some-number, some-sign, opening-sign, closing-sign, semicolon-sign, colon-sign, Is, State, expects, names, more-names, term, summed, terms, more-terms, a-unit, named, more, after-join, Open, allowance, compared-with, Halts, place-of}
 
 -- from place p on the text is cut into the tokens xs
 pub data Left (text : List ℕ) (p : ℕ) : Tokens → Type 0 where
@@ -211,3 +217,92 @@ pub record Begun
   pub all : List X
   pub held : Holds4 X list all
   pub joins : (r : Tokens) (bs : List A) → Parted A Item rest r bs → Parted A Item xs r (map of all ++ bs)
+
+-- Only entries are added to the table, after those in use.
+pub record Grown (b a : Table) : Type 0 where
+  pub fields : (a .fields ≡ b .fields) × (a .«field_count» ≡ b .«field_count»)
+  pub rules : (a .rules ≡ b .rules) × (a .«rule_count» ≡ b .«rule_count»)
+  pub others : (a .mark ≡ b .mark) × (a .over ≡ b .over)
+  pub grows : b .«node_count» ≤ a .«node_count»
+  pub room : b .«node_count» ≤ 256 → a .«node_count» ≤ 256
+  pub same : (k : ℕ) → k < b .«node_count» → node-at (a .nodes) k ≡ node-at (b .nodes) k
+
+-- the entry is added at i, if there is room
+pub record Pushed (b a : Table) (n : Node) (i : ℕ) : Type 0 where
+  pub grown : Grown b a
+  pub there :
+    b .«node_count» < 256
+    → (i ≡ b .«node_count») × (a .«node_count» ≡ b .«node_count» + 1) × (node-at (a .nodes) i ≡ n)
+
+-- the formula f is entered in the table, if there is room
+pub record Entered (text : List ℕ) (b a : Table) (part : Part) (f : Formula) : Type 0 where
+  pub sized : size f ≡ part .size
+  pub joined : joins f ≡ part .joins
+  pub held :
+    b .«node_count» + size f ≤ 256
+    → Entries text (a .nodes) (b .«node_count») (part .body) f
+      × (a .«node_count» ≡ b .«node_count» + size f) × (part .body + 1 ≡ a .«node_count»)
+
+-- a formula that is read, and entered
+abbrev pub FormulaIs : List ℕ → Kind → ℕ → Table → Table → Part → Tokens → Tokens → Type 0
+FormulaIs text k d b a part xs us = (f : Formula) × Reads k d xs us f × Entered text b a part f
+
+-- a part has at least one formula, no more than there are bytes, and fewer joins
+abbrev pub Measured : ℕ → Result (Read Part) Fault → Type 0
+Measured p (Ok x) =
+    (0 < x .value .size) × (p + x .value .size ≤ x .end) × (x .value .joins < x .value .size)
+Measured p (Err f) = Unit {0}
+
+-- what may follow a unit: a level, and the open formulas
+abbrev pub Around : Type 0
+Around = Level × Open
+
+-- the rest of a comparison, after its first term
+abbrev pub ComparisonRead : List ℕ → ℕ → TermEntry → Table → Table → Result (Read Part) Fault → Type 0
+ComparisonRead text p t b a r =
+    Outcome text p Around (λ c. compared-with (c .0) (c .1)) (λ c. more (c .0) (c .1)) Part (λ part xs us.
+      (d : ℕ) (zs : Tokens) → IsTerm zs xs (term-of text t) → FormulaIs text unit d b a part zs us) r
+
+-- the rest of a call, after its opening bracket
+abbrev pub CallRead : List ℕ → ℕ → WordEntry → Table → Table → Result (Read Part) Fault → Type 0
+CallRead text p v b a r =
+    Outcome text p Around (λ c. terms (more (c .0) (c .1))) (λ c. more (c .0) (c .1)) Part (λ part xs us.
+      (d : ℕ) (w : List ℕ) (i q : ℕ) → word-of text v ≡ word w i
+      → FormulaIs text unit d b a part (at (name w) i ∷ at opening q ∷ xs) us) r
+
+-- the rest of a unit that begins with a name
+abbrev pub NamedRead : List ℕ → ℕ → WordEntry → Table → Table → Result (Read Part) Fault → Type 0
+NamedRead text p v b a r =
+    Outcome text p Around (λ c. named (c .0) (c .1)) (λ c. more (c .0) (c .1)) Part (λ part xs us.
+      (d : ℕ) (w : List ℕ) (i : ℕ) → word-of text v ≡ word w i
+      → FormulaIs text unit d b a part (at (name w) i ∷ xs) us) r
+
+-- a unit
+abbrev pub UnitRead : List ℕ → ℕ → ℕ → Table → Table → Result (Read Part) Fault → Type 0
+UnitRead text d p b a r =
+    Outcome text p Around (λ c. a-unit d (c .0) (c .1)) (λ c. more (c .0) (c .1)) Part (FormulaIs text unit d b a) r
+
+-- the weights after a join, which may be absent
+abbrev pub WeightsRead : List ℕ → ℕ → Result (Read WeightsEntry) Fault → Type 0
+WeightsRead text p (Ok x) =
+    (p ≤ x .end) × (x .end ≤ length text)
+    × ((xs : Tokens) → Left text p xs
+      → Came text (Join × Open) (λ c. after-join (c .0) (c .1)) (λ c. a-unit (allowance (c .1)) (only (c .0)) (c .1))
+        xs (x .end) (λ us. IsWeights xs us (weights-of (x .value))))
+WeightsRead text p (Err f) =
+    (xs : Tokens) → Left text p xs → Stopped text (Join × Open) (λ c. after-join (c .0) (c .1)) xs f
+
+-- the level that joins keep to
+abbrev pub level-of : LevelEntry → Level
+level-of level.Any = any
+level-of (level.Only j) = only j
+
+-- the tokens do not begin with a join
+abbrev pub NoJoin : Tokens → Type 0
+NoJoin xs = (j : Join) (p : ℕ) (ys : Tokens) → xs ≡ at (join j) p ∷ ys → ⊥
+
+-- a formula at a level; what follows it is no join
+abbrev pub FormulaRead : List ℕ → ℕ → Level → ℕ → Table → Table → Result (Read Part) Fault → Type 0
+FormulaRead text d l p b a r =
+    Outcome text p ((o : Open) × (allowance o ≡ d)) (λ c. a-unit d l (c .0)) (λ c. more l (c .0)) Part (λ part xs us.
+      FormulaIs text (formula l) d b a part xs us × NoJoin us) r

@@ -1,4 +1,6 @@
 // The grammar of a sheet.
+mod fill;
+mod formula;
 mod list;
 pub mod table;
 mod term;
