@@ -20,7 +20,8 @@ use formula::Join;
 use formula::JoinPartialEq;
 use refusal::Fault;
 use refusal::Refusal;
-ghost use Prim.Native.Nat.{_≤_};
+ghost use mathlib.Core.Path.{_≡_};
+ghost use Prim.Native.Nat.{_+_, _<_, _≤_};
 ghost use lib.ListN.{length};
 ghost use Rattle.std.specs.Orderings.{Decides};
 ghost use Rattle.grammar.specs.Grammar.{Fits, strict};
@@ -49,6 +50,16 @@ impl Level {
             Level::Any => true,
             Level::Only(j) => j == join,
         }
+    }
+}
+
+impl Read<Part> {
+    // The formula `body` around this one.
+    fn within(self, body: u8) -> Read<Part>
+        requires { ⌜ self .value .size < self .end ⌝ }
+        ensures { λ r. ⌜ r ≡ record { value = record { body = body; size = self .value .size + 1; joins = self .value .joins }; end = self .end } ⌝ }
+    {
+        Read { value: Part { body, size: self.value.size + 1, joins: self.value.joins }, end: self.end }
     }
 }
 
@@ -107,4 +118,71 @@ fn read_named(text: &[u8], at: usize, word: Word, table: &mut Table) -> Result<R
     }
     let left = read_sum(text, at, word)?;
     read_comparison(text, left.end, left.value, table)
+}
+
+// A formula with at most `depth` levels in it, at a level.
+pub(crate) fn read_formula(
+    text: &[u8],
+    at: usize,
+    depth: u8,
+    level: Level,
+    table: &mut Table,
+) -> Result<Read<Part>, Fault>
+    ensures grown { λ r. ⌜ Grown (now (table .entry)) (now (table .exit)) ⌝ }
+    ensures measured { λ r. ⌜ Measured at r ⌝ }
+    ensures value { λ r. ⌜ FormulaRead (now (text .entry)) depth (level-of level) at (now (table .entry)) (now (table .exit)) r ⌝ }
+{
+    let left = read_unit(text, at, depth, table)?;
+    let ahead = peek(text, left.end);
+    let Class::Join(join) = ahead.class else {
+        return Ok(left);
+    };
+    if !level.fits(join) {
+        return Err(Fault { refusal: Refusal::JoinMixes, place: ahead.place });
+    }
+    let weights = read_weights(text, ahead.end)?;
+    let right = read_formula(text, weights.end, depth, Level::Only(join), table)?;
+    let body = table.push(Node::Joined(join, weights.value, left.value.body, right.value.body));
+    let size = left.value.size + right.value.size + 1;
+    let joins = left.value.joins + right.value.joins + 1;
+    Ok(Read { value: Part { body, size, joins }, end: right.end })
+}
+
+// A unit with at most `depth` levels in it.
+fn read_unit(text: &[u8], at: usize, depth: u8, table: &mut Table) -> Result<Read<Part>, Fault>
+    ensures grown { λ r. ⌜ Grown (now (table .entry)) (now (table .exit)) ⌝ }
+    ensures measured { λ r. ⌜ Measured at r ⌝ }
+    ensures value { λ r. ⌜ UnitRead (now (text .entry)) depth at (now (table .entry)) (now (table .exit)) r ⌝ }
+{
+    let ahead = peek(text, at);
+    match ahead.class {
+        Class::Number(value) => read_comparison(text, ahead.end, Term::Constant(value), table),
+        Class::Name(word) => read_named(text, ahead.end, word, table),
+        Class::Not => {
+            if depth == 0 {
+                return Err(ahead.too_deep());
+            }
+            let inner = read_unit(text, ahead.end, depth - 1, table)?;
+            let body = table.push(Node::Negated(inner.value.body));
+            Ok(inner.within(body))
+        }
+        Class::Pick => {
+            if depth == 0 {
+                return Err(ahead.too_deep());
+            }
+            let name = read_name(text, ahead.end)?;
+            let inner = read_unit(text, name.end, depth - 1, table)?;
+            let body = table.push(Node::Picked(name.value, inner.value.body));
+            Ok(inner.within(body))
+        }
+        Class::Opening => {
+            if depth == 0 {
+                return Err(ahead.too_deep());
+            }
+            let inner = read_formula(text, ahead.end, depth - 1, Level::Any, table)?;
+            let end = expect(text, inner.end, Fixed::Closing)?;
+            Ok(Read { value: inner.value, end })
+        }
+        _ => Err(ahead.not_permitted()),
+    }
 }

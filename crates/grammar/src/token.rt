@@ -12,7 +12,7 @@ ghost use mathlib.Core.Path.{_≡_};
 ghost use Prim.Native.Nat.{_<_, _≤_};
 ghost use lib.ListN.{length};
 ghost use Rattle.std.specs.Orderings.{Decides};
-ghost use Rattle.refusal.specs.declared.Refusal.the-variants.{TokenNotPermitted};
+ghost use Rattle.refusal.specs.declared.Refusal.the-variants.{TokenNotPermitted, TooDeep};
 ghost use Rattle.grammar.specs.Parsing.{word-class, sign-class, Peeked, fixed-class, fixed-shape, Expected, NameRead, NumberRead, SignRead};
 
 // What a token is to the grammar: seven words are reserved, and every other word is a name.
@@ -67,6 +67,13 @@ impl Ahead {
         ensures { λ r. ⌜ r ≡ record { refusal = TokenNotPermitted; place = self .place } ⌝ }
     {
         Fault { refusal: Refusal::TokenNotPermitted, place: self.place }
+    }
+
+    // The fault that this token opens a level too many.
+    pub(crate) fn too_deep(self) -> Fault
+        ensures { λ r. ⌜ r ≡ record { refusal = TooDeep; place = self .place } ⌝ }
+    {
+        Fault { refusal: Refusal::TooDeep, place: self.place }
     }
 }
 
