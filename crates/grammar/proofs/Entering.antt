@@ -34,7 +34,7 @@ grown-more g h = record {
 }
 
 -- the whole stands after its first entry
-starts : {text : List ℕ} {ns : List Node} {s e : ℕ} {f : Formula} → Entries text ns s e f → s ≤ e
+pub starts : {text : List ℕ} {ns : List Node} {s e : ℕ} {f : Formula} → Entries text ns s e f → s ≤ e
 starts (a-comparison n t u) = omega arith
 starts (a-call n v c ts) = omega arith
 starts (a-not n e a) = omega (arith, starts a)
@@ -42,7 +42,7 @@ starts (a-pick n v e a) = omega (arith, starts a)
 starts (a-join n v e x y) = omega (arith, starts x, starts y)
 
 -- entries that stay are the same formula
-entries-same :
+pub entries-same :
     {text : List ℕ} {ns ms : List Node} {s e : ℕ} {f : Formula}
     → ((k : ℕ) → k ≤ e → node-at ms k ≡ node-at ns k)
     → Entries text ns s e f

@@ -7,6 +7,8 @@ use Prim.Native.Nat.{ℕ, _+_, _-_, _<_, _≤_}
 use lib.ListN.{length, take, drop}
 use lib.Chars.{codes}
 use Rattle.std.specs.shelf.Text.{sameBytes}
+use mathlib.Core.Logic.{_⊎_}
+use Rattle.std.specs.declared.option.Option.the-variants.{Some, None}
 use Rattle.std.specs.declared.result.Result.{Result}
 use Rattle.std.specs.declared.result.Result.the-variants.{Ok, Err}
 use Rattle.refusal.specs.declared.Fault.{Fault}
@@ -24,7 +26,9 @@ use Rattle.grammar.specs.declared.table.Term.{Term as TermEntry}
 use Rattle.grammar.specs.declared.table.Weights.{Weights as WeightsEntry}
 use Rattle.grammar.specs.declared.table.Node.{Node}
 use Rattle.grammar.specs.declared.table.Table.{Table}
+use Rattle.grammar.specs.declared.table.FieldLine.{FieldLine}
 use Rattle.grammar.specs.declared.formula.Part.{Part}
+use Rattle.grammar.specs.declared.line.Head.{Head}
 use Rattle.grammar.specs.declared.formula.Level.{Level as LevelEntry}
 use Rattle.grammar.specs.declared.formula.Level.the-variants as level
 use Rattle.grammar.specs.declared.list.Few.{Few}
@@ -34,11 +38,11 @@ use Rattle.grammar.specs.declared.token.Fixed.the-variants as fixed
 use Rattle.grammar.specs.declared.token.Class.{Class}
 use Rattle.grammar.specs.declared.token.Class.the-variants as class
 use Rattle.grammar.specs.declared.token.Ahead.{Ahead}
-use Rattle.grammar.specs.Syntax.{Word, word, Number, num, Term, Formula}
-use Rattle.grammar.specs.Grammar.{Tok, name, number, field, rule, mark, not, pick, join, sign, opening, closing, comma, semicolon, colon, plus, minus, at, Tokens, Parted, Listed, IsName, IsTerm, IsWeights, Level, any, only, Kind, unit, formula, Reads}
+use Rattle.grammar.specs.Syntax.{Word, word, Number, num, Term, Formula, Field, field-line, Rule, rule-line, Mark, mark-line, Sheet, sheet}
+use Rattle.grammar.specs.Grammar.{Tok, name, number, field, rule, mark, not, pick, join, sign, opening, closing, comma, semicolon, colon, plus, minus, at, Tokens, Parted, Listed, IsName, IsTerm, IsWeights, Level, any, only, Kind, unit, formula, Reads, IsField, IsRule, IsMark, Many}
 use Rattle.grammar.specs.Tokens.{tokens}
-use Rattle.grammar.specs.Tables.{word-of, number-of, term-of, weights-of, node-at, Entries, size, joins}
-use Rattle.grammar.specs.Moves.{Shape, some-name, some-number, some-sign, opening-sign, closing-sign, semicolon-sign, colon-sign, Is, State, expects, names, more-names, term, summed, terms, more-terms, a-unit, named, more, after-join, Open, allowance, compared-with, Halts, place-of}
+use Rattle.grammar.specs.Tables.{word-of, number-of, term-of, weights-of, node-at, Entries, size, joins, field-of, LinesAbove, Over, Holds, SomeFields}
+use Rattle.grammar.specs.Moves.{Shape, some-name, some-number, some-sign, opening-sign, closing-sign, semicolon-sign, colon-sign, Is, State, expects, names, more-names, term, summed, terms, more-terms, a-unit, named, more, after-join, Line, of-rule, of-mark, Open, whole, rule-body, allowance, compared-with, fields, rules, ended, start, field-rest, rule-rest, Halts, place-of}
 
 -- from place p on the text is cut into the tokens xs
 pub data Left (text : List ℕ) (p : ℕ) : Tokens → Type 0 where
@@ -306,3 +310,130 @@ abbrev pub FormulaRead : List ℕ → ℕ → Level → ℕ → Table → Table 
 FormulaRead text d l p b a r =
     Outcome text p ((o : Open) × (allowance o ≡ d)) (λ c. a-unit d l (c .0)) (λ c. more l (c .0)) Part (λ part xs us.
       FormulaIs text (formula l) d b a part xs us × NoJoin us) r
+
+-- LinesKept text t fs rs e: of the lines fs and rs the table keeps those before the first that passes a limit, in e entries
+pub data LinesKept (text : List ℕ) (t : Table) (fs : List Field) (rs : List Rule) (e : ℕ) : Type 0 where
+  all-kept :
+      t .over ≡ None
+      → LinesAbove text t fs rs e
+      → LinesKept text t fs rs e
+  field-over :
+      {gs : List Field} {p d : ℕ} (w : Word) (low high : Number) (below : List Field)
+      → t .over ≡ Some p
+      → LinesAbove text t gs [] d
+      → d ≤ e
+      → length gs ≡ 8
+      → fs ≡ gs ++ (field-line p w low high ∷ below)
+      → LinesKept text t fs rs e
+  rule-over :
+      {qs : List Rule} {p d : ℕ} {ps : List Word} {f : Formula} (w : Word) (below : List Rule)
+      → t .over ≡ Some p
+      → LinesAbove text t fs qs d
+      → d ≤ e
+      → (16 ≤ length qs) ⊎ Over d ps f
+      → rs ≡ qs ++ (rule-line p w ps f ∷ below)
+      → LinesKept text t fs rs e
+
+-- the lines of a table are kept at the end of a line
+abbrev pub Lines : List ℕ → Table → List Field → List Rule → Type 0
+Lines text t fs rs = LinesKept text t fs rs (t .«node_count»)
+
+-- a line with n parameters and this formula, from the entry s on, passes a limit
+abbrev pub Passing : ℕ → ℕ → Part → Type 0
+Passing s n part = (4 < n) ⊎ ((16 < part .joins) ⊎ (256 < s + part .size))
+
+-- a field line more
+abbrev pub FieldKept : Table → Table → FieldLine → Type 0
+FieldKept b a line =
+    (text : List ℕ) (fs : List Field) → Lines text b fs [] → Lines text a (fs ++ field-of text line ∷ []) []
+
+-- the formula f stands in the table from the entry s on, if there is room
+pub record BodyHeld (text : List ℕ) (t : Table) (s : ℕ) (part : Part) (f : Formula) : Type 0 where
+  pub sized : size f ≡ part .size
+  pub joined : joins f ≡ part .joins
+  pub held :
+    s + size f ≤ 256
+    → Entries text (t .nodes) s (part .body) f × (t .«node_count» ≡ s + size f) × (part .body + 1 ≡ t .«node_count»)
+
+-- a rule line more
+abbrev pub RuleKept : Table → Table → ℕ → Head → ℕ → Part → Type 0
+RuleKept b a first head s part =
+    (text : List ℕ) (fs : List Field) (rs : List Rule) (all : List WordEntry) (f : Formula)
+    → LinesKept text b fs rs s
+    → s ≤ b .«node_count»
+    → Holds4 WordEntry (head .params) all
+    → BodyHeld text b s part f
+    → Lines text a fs (rs ++ rule-line first (word-of text (head .name)) (map (word-of text) all) f ∷ [])
+
+-- the mark line, and with it the sheet
+abbrev pub MarkKept : Table → Table → ℕ → ℕ → Part → Type 0
+MarkKept b a first s part =
+    (text : List ℕ) (fs : List Field) (rs : List Rule) (f : Formula)
+    → LinesKept text b fs rs s
+    → BodyHeld text b s part f
+    → Holds text a (sheet fs rs (mark-line first f))
+
+-- the head of a rule: `NAME ( NAMES ) :`
+pub data HeadIs (text : List ℕ) (head : Head) : Tokens → Tokens → Type 0 where
+  a-head :
+      {w : List ℕ} {q i k : ℕ} {ys zs : Tokens} (all : List WordEntry)
+      → word-of text (head .name) ≡ word w q
+      → Holds4 WordEntry (head .params) all
+      → Listed Word IsName ys (at colon k ∷ zs) (map (word-of text) all)
+      → HeadIs text head (at (name w) q ∷ at opening i ∷ ys) zs
+
+abbrev pub HeadRead : List ℕ → ℕ → Result (Read Head) Fault → Type 0
+HeadRead text p r =
+    Outcome text p (Unit {0}) (λ _. rule-rest) (λ _. a-unit 16 any (whole of-rule)) Head (HeadIs text) r
+
+-- what comes after a line
+abbrev pub after-line : Line → State
+after-line of-rule = rules
+after-line of-mark = ended
+
+-- a line's formula and the semicolon
+pub data BodyIs (text : List ℕ) (b a : Table) (part : Part) : Tokens → Tokens → Type 0 where
+  a-body :
+      {e : ℕ} {xs us : Tokens} {f : Formula}
+      → Reads (formula any) 16 xs (at semicolon e ∷ us) f
+      → Entered text b a part f
+      → BodyIs text b a part xs us
+
+abbrev pub BodyRead : List ℕ → ℕ → Table → Table → Result (Read Part) Fault → Type 0
+BodyRead text p b a r =
+    Outcome text p Line (λ n. a-unit 16 any (whole n)) after-line Part (BodyIs text b a) r
+
+-- a line from place p on: where it ends, or the fault
+abbrev pub LineRead : List ℕ → ℕ → State → State → (Tokens → Tokens → Type 0) → Result ℕ Fault → Type 0
+LineRead text p before after Item (Ok q) =
+    (p < q) × (q ≤ length text)
+    × ((xs : Tokens) → Left text p xs → Came text (Unit {0}) (λ _. before) (λ _. after) xs q (Item xs))
+LineRead text p before after Item (Err f) =
+    (xs : Tokens) → Left text p xs → Stopped text (Unit {0}) (λ _. before) xs f
+
+-- the rest of a field line whose first word is at place i, and the line that is kept
+abbrev pub FieldRead : List ℕ → ℕ → ℕ → Table → Table → Result ℕ Fault → Type 0
+FieldRead text p i b a r =
+    LineRead text p field-rest fields (λ xs us.
+      (f : Field) × IsField (at field i ∷ xs) us f
+      × ((fs : List Field) → Lines text b fs [] → Lines text a (fs ++ f ∷ []) [])) r
+
+-- the rest of a rule line whose first word is at place i, and the line that is kept
+abbrev pub RuleRead : List ℕ → ℕ → ℕ → Table → Table → Result ℕ Fault → Type 0
+RuleRead text p i b a r =
+    LineRead text p rule-rest rules (λ xs us.
+      (f : Rule) × IsRule (at rule i ∷ xs) us f
+      × ((fs : List Field) (rs : List Rule) → Lines text b fs rs → Lines text a fs (rs ++ f ∷ []))) r
+
+-- the tokens do not begin with t
+abbrev pub NotFirst : Tok → Tokens → Type 0
+NotFirst t xs = (p : ℕ) (ys : Tokens) → xs ≡ at t p ∷ ys → ⊥
+
+-- the mark line and the end of the text, where no rule line stands; and the sheet that is held
+abbrev pub MarkRead : List ℕ → ℕ → Table → Table → Result (Unit {0}) Fault → Type 0
+MarkRead text p b a (Ok _) =
+    (xs : Tokens) → Left text p xs
+    → (m : Mark) × IsMark xs [] m
+      × ((fs : List Field) (rs : List Rule) → Lines text b fs rs → Holds text a (sheet fs rs m))
+MarkRead text p b a (Err f) =
+    (xs : Tokens) → Left text p xs → NotFirst rule xs → Stopped text (Unit {0}) (λ _. rules) xs f

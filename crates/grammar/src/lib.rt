@@ -1,6 +1,7 @@
 // The grammar of a sheet.
 mod fill;
 mod formula;
+mod line;
 mod list;
 pub mod table;
 mod term;
