@@ -71,60 +71,70 @@ pub data Level : Type 0 where
   any : Level
   only : Join → Level
 
--- the join j may stand at the level
-abbrev pub Fits : Level → Join → Type 0
-Fits any j = Unit {0}
-Fits (only k) j = k ≡ j
+-- the limits on formulas: kept, or lifted, as they are to tell why a token cannot stand
+pub data Limits : Type 0 where
+  strict loose : Limits
+
+-- one more level may be opened where d are left; loosely, always
+abbrev pub Deeper : Limits → ℕ → Type 0
+Deeper strict d = 0 < d
+Deeper loose d = Unit {0}
+
+-- the join j may stand at the level; loosely, joins mix
+abbrev pub Fits : Limits → Level → Join → Type 0
+Fits strict any j = Unit {0}
+Fits strict (only k) j = k ≡ j
+Fits loose l j = Unit {0}
 
 -- what is read: a unit, or a formula at a level
 pub data Kind : Type 0 where
   unit : Kind
   formula : Level → Kind
 
--- Reads k d xs r f: xs begins with a unit or a formula, in which brackets, `not` and `pick` nest at most d deep
-pub data Reads : Kind → ℕ → Tokens → Tokens → Formula → Type 0 where
+-- ReadsBy L k d xs r f: xs begins with a unit or a formula, in which brackets, `not` and `pick` nest at most d deep
+pub data ReadsBy (L : Limits) : Kind → ℕ → Tokens → Tokens → Formula → Type 0 where
   -- a term, a sign and a term
   a-comparison :
       {d p : ℕ} {xs ys r : Tokens} {t u : Term} {c : Comparison}
       → IsTerm xs (at (sign c) p ∷ ys) t
       → IsTerm ys r u
-      → Reads unit d xs r (compared c t u)
+      → ReadsBy L unit d xs r (compared c t u)
   -- a name and terms in brackets
   a-call :
       {d p q : ℕ} {w : List ℕ} {ys r : Tokens} {ts : List Term}
       → Listed Term IsTerm ys r ts
-      → Reads unit d (at (name w) p ∷ at opening q ∷ ys) r (called (word w p) ts)
+      → ReadsBy L unit d (at (name w) p ∷ at opening q ∷ ys) r (called (word w p) ts)
   -- `not` and a unit
   a-not :
       {d p : ℕ} {ys r : Tokens} {f : Formula}
-      → 0 < d
-      → Reads unit (d - 1) ys r f
-      → Reads unit d (at not p ∷ ys) r (negated f)
+      → Deeper L d
+      → ReadsBy L unit (d - 1) ys r f
+      → ReadsBy L unit d (at not p ∷ ys) r (negated f)
   -- `pick`, a name and a unit
   a-pick :
       {d p q : ℕ} {w : List ℕ} {ys r : Tokens} {f : Formula}
-      → 0 < d
-      → Reads unit (d - 1) ys r f
-      → Reads unit d (at pick p ∷ at (name w) q ∷ ys) r (picked (word w q) f)
+      → Deeper L d
+      → ReadsBy L unit (d - 1) ys r f
+      → ReadsBy L unit d (at pick p ∷ at (name w) q ∷ ys) r (picked (word w q) f)
   -- a formula in brackets
   brackets :
       {d p q : ℕ} {ys r : Tokens} {f : Formula}
-      → 0 < d
-      → Reads (formula any) (d - 1) ys (at closing q ∷ r) f
-      → Reads unit d (at opening p ∷ ys) r f
+      → Deeper L d
+      → ReadsBy L (formula any) (d - 1) ys (at closing q ∷ r) f
+      → ReadsBy L unit d (at opening p ∷ ys) r f
   -- a formula that is one unit
   alone :
       {d : ℕ} {l : Level} {xs r : Tokens} {f : Formula}
-      → Reads unit d xs r f
-      → Reads (formula l) d xs r f
+      → ReadsBy L unit d xs r f
+      → ReadsBy L (formula l) d xs r f
   -- a unit, a join, weights if any, and a formula with joins of that kind only
   a-join :
       {d p : ℕ} {l : Level} {xs ys zs r : Tokens} {f g : Formula} {w : Weights} {j : Join}
-      → Reads unit d xs (at (join j) p ∷ ys) f
-      → Fits l j
+      → ReadsBy L unit d xs (at (join j) p ∷ ys) f
+      → Fits L l j
       → IsWeights ys zs w
-      → Reads (formula (only j)) d zs r g
-      → Reads (formula l) d xs r (joined j w f g)
+      → ReadsBy L (formula (only j)) d zs r g
+      → ReadsBy L (formula l) d xs r (joined j w f g)
 
 -- `field NAME LOW HIGH ;`
 pub data IsField : Tokens → Tokens → Field → Type 0 where
@@ -135,19 +145,19 @@ pub data IsField : Tokens → Tokens → Field → Type 0 where
         (field-line p (word w q) (num l i) (num h k))
 
 -- `rule NAME ( NAMES ) : FORMULA ;`
-pub data IsRule : Tokens → Tokens → Rule → Type 0 where
+pub data RuleBy (L : Limits) : Tokens → Tokens → Rule → Type 0 where
   a-rule :
       {w : List ℕ} {p q i k e : ℕ} {ys zs r : Tokens} {ps : List Word} {f : Formula}
       → Listed Word IsName ys (at colon k ∷ zs) ps
-      → Reads (formula any) 16 zs (at semicolon e ∷ r) f
-      → IsRule (at rule p ∷ at (name w) q ∷ at opening i ∷ ys) r (rule-line p (word w q) ps f)
+      → ReadsBy L (formula any) 16 zs (at semicolon e ∷ r) f
+      → RuleBy L (at rule p ∷ at (name w) q ∷ at opening i ∷ ys) r (rule-line p (word w q) ps f)
 
 -- `mark FORMULA ;`
-pub data IsMark : Tokens → Tokens → Mark → Type 0 where
+pub data MarkBy (L : Limits) : Tokens → Tokens → Mark → Type 0 where
   a-mark :
       {p e : ℕ} {ys r : Tokens} {f : Formula}
-      → Reads (formula any) 16 ys (at semicolon e ∷ r) f
-      → IsMark (at mark p ∷ ys) r (mark-line p f)
+      → ReadsBy L (formula any) 16 ys (at semicolon e ∷ r) f
+      → MarkBy L (at mark p ∷ ys) r (mark-line p f)
 
 -- lines of one kind, if any
 pub data Many (A : Type 0) (Item : Tokens → Tokens → A → Type 0) : Tokens → Tokens → List A → Type 0 where
@@ -159,11 +169,25 @@ pub data Many (A : Type 0) (Item : Tokens → Tokens → A → Type 0) : Tokens 
       → Many A Item xs r (a ∷ bs)
 
 -- one or more field lines, then rule lines if any, then one mark line, and nothing more
-pub data IsSheet : Tokens → Sheet → Type 0 where
+pub data SheetBy (L : Limits) : Tokens → Sheet → Type 0 where
   a-sheet :
       {xs ys zs us : Tokens} {f : Field} {fs : List Field} {rs : List Rule} {m : Mark}
       → IsField xs ys f
       → Many Field IsField ys zs fs
-      → Many Rule IsRule zs us rs
-      → IsMark us [] m
-      → IsSheet xs (sheet (f ∷ fs) rs m)
+      → Many Rule (RuleBy L) zs us rs
+      → MarkBy L us [] m
+      → SheetBy L xs (sheet (f ∷ fs) rs m)
+
+-- The grammar of a sheet keeps the limits.
+
+abbrev pub Reads : Kind → ℕ → Tokens → Tokens → Formula → Type 0
+Reads = ReadsBy strict
+
+abbrev pub IsRule : Tokens → Tokens → Rule → Type 0
+IsRule = RuleBy strict
+
+abbrev pub IsMark : Tokens → Tokens → Mark → Type 0
+IsMark = MarkBy strict
+
+abbrev pub IsSheet : Tokens → Sheet → Type 0
+IsSheet = SheetBy strict

@@ -1,4 +1,10 @@
 pub mod Syntax
 pub mod Grammar
-pub mod Laws
+pub mod Refusal
 pub mod Tables
+pub mod Written
+pub mod Laws
+pub mod Tokens
+pub mod Answers
+pub mod Moves
+pub mod Parsing
