@@ -1,0 +1,1 @@
+// Reads a sheet from its text.
