@@ -5,5 +5,6 @@ pub mod Tables
 pub mod Written
 pub mod Laws
 pub mod Tokens
+pub mod Answers
 pub mod Moves
 pub mod Parsing

@@ -437,3 +437,41 @@ MarkRead text p b a (Ok _) =
       × ((fs : List Field) (rs : List Rule) → Lines text b fs rs → Holds text a (sheet fs rs m))
 MarkRead text p b a (Err f) =
     (xs : Tokens) → Left text p xs → NotFirst rule xs → Stopped text (Unit {0}) (λ _. rules) xs f
+
+-- the first line of a sheet, a field line
+abbrev pub FirstRead : List ℕ → Table → Table → Result ℕ Fault → Type 0
+FirstRead text b a r =
+    LineRead text 0 start fields (λ xs us.
+      (f : Field) × IsField xs us f
+      × ((fs : List Field) → Lines text b fs [] → Lines text a (fs ++ f ∷ []) [])) r
+
+-- from place p to place q there are only field lines, and they are kept
+abbrev pub FieldsSoFar : List ℕ → ℕ → Table → Table → ℕ → Type 0
+FieldsSoFar text p b a q =
+    (p ≤ q) × (q ≤ length text)
+    × ((xs : Tokens) → Left text p xs → Came text (Unit {0}) (λ _. fields) (λ _. fields) xs q (λ us.
+        (fs : List Field) × Many Field IsField xs us fs
+        × ((gs : List Field) → Lines text b gs [] → Lines text a (gs ++ fs) [])))
+
+-- field lines, as many as there are
+abbrev pub FieldsRead : List ℕ → ℕ → Table → Table → Result ℕ Fault → Type 0
+FieldsRead text p b a (Ok q) = FieldsSoFar text p b a q × ((xs : Tokens) → Left text q xs → NotFirst field xs)
+FieldsRead text p b a (Err f) = (xs : Tokens) → Left text p xs → Stopped text (Unit {0}) (λ _. fields) xs f
+
+-- from place p to place q there are only rule lines, and they are kept
+abbrev pub RulesSoFar : List ℕ → ℕ → Table → Table → ℕ → Type 0
+RulesSoFar text p b a q =
+    (p ≤ q) × (q ≤ length text)
+    × ((xs : Tokens) → Left text p xs → Came text (Unit {0}) (λ _. rules) (λ _. rules) xs q (λ us.
+        (rs : List Rule) × Many Rule IsRule xs us rs
+        × ((fs : List Field) (ps : List Rule) → Lines text b fs ps → Lines text a fs (ps ++ rs))))
+
+-- rule lines, as many as there are
+abbrev pub RulesRead : List ℕ → ℕ → Table → Table → Result ℕ Fault → Type 0
+RulesRead text p b a (Ok q) = RulesSoFar text p b a q × ((xs : Tokens) → Left text q xs → NotFirst rule xs)
+RulesRead text p b a (Err f) = (xs : Tokens) → Left text p xs → Stopped text (Unit {0}) (λ _. rules) xs f
+
+-- the table, where the lines are read
+abbrev pub parsed-to : Table → Result (Unit {0}) Fault → Result Table Fault
+parsed-to t (Ok _) = Ok t
+parsed-to t (Err f) = Err f

@@ -3,9 +3,13 @@ mod fill;
 mod formula;
 mod line;
 mod list;
+mod sheet;
 pub mod table;
 mod term;
 mod token;
+
+pub use sheet::parse;
+
 ghost use Rattle.grammar.specs.Laws.{Unambiguous, One-verdict, Read-back, Well-read};
 
 // A list of tokens is one sheet at most.

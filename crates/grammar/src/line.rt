@@ -72,7 +72,7 @@ fn read_body(text: &[u8], at: usize, table: &mut Table) -> Result<Read<Part>, Fa
 }
 
 // The rest of a field line, after the word `field` at `first`.
-fn read_field(text: &[u8], at: usize, first: usize, table: &mut Table) -> Result<usize, Fault>
+pub(crate) fn read_field(text: &[u8], at: usize, first: usize, table: &mut Table) -> Result<usize, Fault>
     ensures entries { λ r. ⌜ now (table .exit) .«node_count» ≡ now (table .entry) .«node_count» ⌝ }
     ensures value { λ r. ⌜ FieldRead (now (text .entry)) at first (now (table .entry)) (now (table .exit)) r ⌝ }
 {
@@ -85,7 +85,7 @@ fn read_field(text: &[u8], at: usize, first: usize, table: &mut Table) -> Result
 }
 
 // The rest of a rule line, after the word `rule` at `first`.
-fn read_rule(text: &[u8], at: usize, first: usize, table: &mut Table) -> Result<usize, Fault>
+pub(crate) fn read_rule(text: &[u8], at: usize, first: usize, table: &mut Table) -> Result<usize, Fault>
     requires { ⌜ now table .«node_count» ≤ 256 ⌝ }
     ensures room { λ r. ⌜ now (table .exit) .«node_count» ≤ 256 ⌝ }
     ensures value { λ r. ⌜ RuleRead (now (text .entry)) at first (now (table .entry)) (now (table .exit)) r ⌝ }
