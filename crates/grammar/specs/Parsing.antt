@@ -470,3 +470,8 @@ RulesSoFar text p b a q =
 abbrev pub RulesRead : List ℕ → ℕ → Table → Table → Result ℕ Fault → Type 0
 RulesRead text p b a (Ok q) = RulesSoFar text p b a q × ((xs : Tokens) → Left text q xs → NotFirst rule xs)
 RulesRead text p b a (Err f) = (xs : Tokens) → Left text p xs → Stopped text (Unit {0}) (λ _. rules) xs f
+
+-- the table, where the lines are read
+abbrev pub parsed-to : Table → Result (Unit {0}) Fault → Result Table Fault
+parsed-to t (Ok _) = Ok t
+parsed-to t (Err f) = Err f

@@ -7,10 +7,13 @@ use crate::token::Class;
 use crate::token::peek;
 use refusal::Fault;
 ghost use mathlib.Core.Path.{_≡_};
-ghost use Prim.Native.Nat.{_≤_};
+ghost use mathlib.Core.List.{List, []};
+ghost use Prim.Native.Nat.{ℕ, _≤_};
 ghost use lib.ListN.{length};
+ghost use Rattle.std.specs.declared.option.Option.the-variants.{None};
 ghost use Rattle.grammar.specs.Answers.{Parsed};
-ghost use Rattle.grammar.specs.Parsing.{FirstRead, FieldsRead, RulesRead};
+ghost use Rattle.grammar.specs.Tables.{LinesAbove};
+ghost use Rattle.grammar.specs.Parsing.{FirstRead, FieldsRead, RulesRead, parsed-to};
 
 // The first line, which is a field line.
 fn read_first(text: &[u8], table: &mut Table) -> Result<usize, Fault>
@@ -57,14 +60,26 @@ fn read_rules(text: &[u8], at: usize, table: &mut Table) -> Result<usize, Fault>
     }
 }
 
+// The lines of a sheet, into a table without lines.
+fn read_sheet(text: &[u8], table: &mut Table) -> Result<(), Fault>
+    requires lines { ⌜ ((bytes : List ℕ) → LinesAbove bytes (now table) [] [] 0) ⌝ }
+    requires entries { ⌜ now table .«node_count» ≡ 0 ⌝ }
+    requires over { ⌜ now table .over ≡ None ⌝ }
+    ensures { λ r. ⌜ Parsed (now (text .entry)) (parsed-to (now (table .exit)) r) ⌝ }
+{
+    let first = read_first(text, table)?;
+    let fields = read_fields(text, first, table)?;
+    let rules = read_rules(text, fields, table)?;
+    read_mark(text, rules, table)
+}
+
 // Parses a text that can be cut into tokens: the sheet as it is written, or the first fault of its grammar.
 pub fn parse(text: &[u8]) -> Result<Table, Fault>
     ensures { λ r. ⌜ Parsed (now (text .entry)) r ⌝ }
 {
     let mut table = Table::blank();
-    let first = read_first(text, &mut table)?;
-    let fields = read_fields(text, first, &mut table)?;
-    let rules = read_rules(text, fields, &mut table)?;
-    read_mark(text, rules, &mut table)?;
-    Ok(table)
+    match read_sheet(text, &mut table) {
+        Ok(()) => Ok(table),
+        Err(fault) => Err(fault),
+    }
 }
