@@ -16,3 +16,4 @@ pub mod WholeLines
 pub mod Loops
 pub mod Covered
 pub mod Trees
+pub mod Known

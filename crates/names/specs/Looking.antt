@@ -28,7 +28,10 @@ use Rattle.sheet.specs.declared.node.Name.{Name}
 use Rattle.sheet.specs.declared.node.Term.{Term as SheetTerm}
 use Rattle.sheet.specs.declared.node.Node.{Node}
 use Rattle.sheet.specs.declared.node.Node.the-variants.{Compare, Call, Not, Pick, Join as JoinNode}
-use Rattle.sheet.specs.Table.{name-of as number-name, term-of as number-term, node-at as number-node}
+use Rattle.sheet.specs.declared.node.Range.{Range}
+use Rattle.sheet.specs.declared.node.Line.{Line}
+use Rattle.grammar.specs.declared.table.MarkLine.{MarkLine}
+use Rattle.sheet.specs.Table.{range-at, line-at, name-of as number-name, term-of as number-term, node-at as number-node}
 use Rattle.names.specs.Lists.{Stands, In, Each}
 use Rattle.names.specs.Names.{spelling, Means, Calls, TermIs, left-weight, right-weight}
 use Rattle.names.specs.Faults.{Use, term, call, weight, term-uses, terms-uses, weight-uses, UseFault, field-name, rule-name, all-names, Taken, sizes, FieldFault, RuleFault, MarkFault, Faulty, First, NoLater}
@@ -391,3 +394,22 @@ abbrev pub LinesSettled : List ℕ → Table → List Node → Option Fault → 
 LinesSettled text t nodes r =
     (s : Sheet) → Holds text t s → WellRead s
     → Best (Faulty s) r × (r ≡ None → (t .over ≡ None) × AllNumbered text t nodes s)
+
+-- The parts of a sheet
+
+-- the ranges of the first count field lines
+abbrev pub RangesOf : List FieldLine → (count : ℕ) → List Range → Type 0
+RangesOf fields count ranges =
+    (length ranges ≡ 8)
+    × ((i : ℕ) → i < count → i < 8
+      → (range-at ranges i .low ≡ field-at fields i .low .value) × (range-at ranges i .high ≡ field-at fields i .high .value))
+
+-- the lines of the first count rule lines, and then the mark line
+abbrev pub LinesOf : List RuleLine → (count : ℕ) → MarkLine → List Line → Type 0
+LinesOf rules count mark lines =
+    (length lines ≡ 17)
+    × ((l : ℕ) → l < count → l < 16
+      → (line-at lines l .start ≡ rule-at rules l .start) × (line-at lines l .body ≡ rule-at rules l .body)
+      × (rule-at rules l .«param_count» ≤ 4 → line-at lines l .params ≡ rule-at rules l .«param_count»))
+    × (count ≤ 16
+      → (line-at lines count .start ≡ mark .start) × (line-at lines count .body ≡ mark .body) × (line-at lines count .params ≡ 0))

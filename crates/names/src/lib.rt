@@ -1,8 +1,10 @@
 // The names of a sheet: its first fault, or the sheet that it comes to.
 mod declared;
 mod entries;
+mod layout;
 mod lines;
 mod lookup;
+
 ghost use Rattle.names.specs.Faults.{One-verdict};
 
 // A sheet as written comes to exactly one tree, or has exactly one first fault.

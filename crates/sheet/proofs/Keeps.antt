@@ -44,13 +44,11 @@ term-known fields params (Moved b s) e =
     (name-known fields params b (h .0), shift-known s (h .1))
 
 terms-known :
-    (fields params k : ℕ) (ts : List Term)
-    → known-terms fields params ts ≡ true → KnownTerms fields params (map term-of (take k ts))
-terms-known fields params zero ts e = tt
-terms-known fields params (suc k) [] e = tt
-terms-known fields params (suc k) (t ∷ ts) e =
+    (fields params : ℕ) (ts : List Term) → known-terms fields params ts ≡ true → KnownTerms fields params (map term-of ts)
+terms-known fields params [] e = tt
+terms-known fields params (t ∷ ts) e =
     let h = and-both (known-term fields params t) (known-terms fields params ts) e in
-    (term-known fields params t (h .0), terms-known fields params k ts (h .1))
+    (term-known fields params t (h .0), terms-known fields params ts (h .1))
 
 no-line : Line
 no-line = record { params = 0; start = 0; body = 0 }
@@ -86,12 +84,12 @@ module _ (s : Sheet) where
         (term-known _ _ t (h .0), term-known _ _ u (h .1))
     whole-known n i parts (Call r k ts) e =
         let reaches : (r < s .«rule_count») × (r ≤ l) × (k ≡ line-at (s .lines) r .params) × (length ts ≡ 4) = grind (arith, tells, e) in
-        let knows : known-terms (s .«field_count») (line-at (s .lines) l .params) ts ≡ true = grind (arith, tells, e) in
+        let knows : known-terms (s .«field_count») (line-at (s .lines) l .params) (take k ts) ≡ true = grind (arith, tells, e) in
         let few = s .«lines_kept» r (omega (arith, reaches .0)) in
         (reach r (reaches .0) (reaches .1),
          length-map (take k ts) term-of ∙ length-take-le k ts (omega (arith, few, reaches .2, reaches .3)) ∙ reaches .2
          ∙ sym (ap params-of (rule-at (s .nodes) (s .lines) (s .«rule_count») r rules-long (reaches .0))),
-         terms-known _ _ k ts knows)
+         terms-known _ _ (take k ts) knows)
     whole-known n i parts (Not a) e =
         let h = parts-of (s .«field_count») (s .«rule_count») (s .lines) l i (Not a) e in
         parts a (h .0) (h .1)
