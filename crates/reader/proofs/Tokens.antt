@@ -4,7 +4,9 @@ use mathlib.Core.Bool.{Bool, true, false, cond}
 use mathlib.Core.List.{List, [], _∷_, _++_}
 use Prim.Native.Nat.{ℕ, _+_, _<_, _≤_}
 use native.Mathlib.Omega.{arith}
+use lib.Chars.{codes}
 use lib.ListN.{length}
+use Rattle.std.specs.shelf.Text.{sameBytes}
 use Rattle.formula.specs.declared.Join.the-variants.{And, Or}
 use Rattle.signs.specs.declared.token.Sign.{Sign}
 use Rattle.signs.specs.declared.token.Sign.the-variants.{Open, Close, Comma, Semicolon, Colon, Plus, Minus, Compare}
@@ -61,13 +63,23 @@ abbrev AllSmall : Tokens → Type 0
 AllSmall [] = Unit {0}
 AllSmall (at t p ∷ xs) = Small t × AllSmall xs
 
-either : (b : Bool) (t u : Tok) → Small t → Small u → Small (cond b t u)
-either true t u h k = h
-either false t u h k = k
+-- one reserved word more
+reserved : (w k : List ℕ) (t u : Tok) → Small t → Small u → Small (cond (sameBytes w k) t u)
+reserved w k t u h j = chosen (sameBytes w k)
+  where
+    chosen : (b : Bool) → Small (cond b t u)
+    chosen true = h
+    chosen false = j
 
 word-small : (w : List ℕ) → Small (word-token w)
 word-small w =
-    either _ _ _ tt (either _ _ _ tt (either _ _ _ tt (either _ _ _ tt (either _ _ _ tt (either _ _ _ tt (either _ _ _ tt tt))))))
+    let picked = reserved w (codes "pick") pick (name w) tt tt in
+    let negated = reserved w (codes "not") not _ tt picked in
+    let any = reserved w (codes "or") (join Or) _ tt negated in
+    let all = reserved w (codes "and") (join And) _ tt any in
+    let marked = reserved w (codes "mark") mark _ tt all in
+    let ruled = reserved w (codes "rule") rule _ tt marked in
+    reserved w (codes "field") field _ tt ruled
 
 sign-small : (s : Sign) → Small (sign-token s)
 sign-small Open = tt
