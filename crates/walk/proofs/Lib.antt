@@ -1,0 +1,6 @@
+pub mod Recording
+pub mod Telling
+pub mod Standing
+pub mod Sheets
+pub mod Counts
+pub mod Laws

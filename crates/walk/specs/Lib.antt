@@ -1,0 +1,5 @@
+pub mod Rooms
+pub mod Records
+pub mod Watching
+pub mod Calls
+pub mod Law
