@@ -1,3 +1,4 @@
 pub mod Syntax
 pub mod Grammar
 pub mod Laws
+pub mod Tables
