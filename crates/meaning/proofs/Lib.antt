@@ -1,0 +1,14 @@
+pub mod Readings
+pub mod ReadSamples
+pub mod Basics
+pub mod Values
+pub mod Soundness
+pub mod Forks
+pub mod Parting
+pub mod Counting
+pub mod Completeness
+pub mod Comparisons
+pub mod Pending
+pub mod Runs
+pub mod Entries
+pub mod Lengths

@@ -1,0 +1,16 @@
+pub mod Terms
+pub mod Reading
+pub mod ReadingLaws
+pub mod ReadingSamples
+pub mod Traces
+pub mod Matching
+pub mod MatchingLaws
+pub mod Comparisons
+pub mod Pending
+pub mod Runs
+pub mod RunLaws
+pub mod Lengths
+pub mod Picks
+pub mod Walks
+pub mod WalkLaws
+pub mod Samples
