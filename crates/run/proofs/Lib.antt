@@ -1,0 +1,3 @@
+pub mod Guides
+pub mod Ways
+pub mod Settling

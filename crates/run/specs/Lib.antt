@@ -1,0 +1,5 @@
+pub mod Guides
+pub mod Answering
+pub mod Ways
+pub mod Frames
+pub mod Settling
