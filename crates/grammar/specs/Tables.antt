@@ -143,7 +143,7 @@ pub data Rules (text : List ℕ) (nodes : List Node) : (s : ℕ) → List RuleLi
       {s p e : ℕ} {l : RuleLine} {ls : List RuleLine} {w : Word} {ps : List Word} {f : Formula} {xs : List Rule}
       → l .first ≡ p
       → word-of text (l .name) ≡ w
-      → l .«param_count» ≤ 4
+      → l .«param_count» ≡ length ps
       → params-of text l ≡ ps
       → l .start ≡ s
       → Entries text nodes s (l .body) f
@@ -153,9 +153,11 @@ pub data Rules (text : List ℕ) (nodes : List Node) : (s : ℕ) → List RuleLi
 
 -- LinesAbove text t fs rs e: the field and rule lines of the table are fs and rs, none over a limit, in e entries
 pub record LinesAbove (text : List ℕ) (t : Table) (fs : List Field) (rs : List Rule) (e : ℕ) : Type 0 where
-  pub few-fields : t .«field_count» ≤ 8
+  pub field-count : t .«field_count» ≡ length fs
+  pub few-fields : length fs ≤ 8
   pub fields-held : fields-of text t ≡ fs
-  pub few-rules : t .«rule_count» ≤ 16
+  pub rule-count : t .«rule_count» ≡ length rs
+  pub few-rules : length rs ≤ 16
   pub rules-held : Rules text (t .nodes) 0 (rules-of t) rs e
 
 -- Holds text t s: the table t holds the sheet s

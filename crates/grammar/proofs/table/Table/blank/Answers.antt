@@ -6,7 +6,15 @@ use Rattle.grammar.proofs.table.Table.blank.Needs as need
 pub returns : need.returns
 returns c =
     record {
-      lines = λ text. record { few-fields = lit≤ tt; fields-held = refl; few-rules = lit≤ tt; rules-held = no-rules };
+      lines = λ text.
+        record {
+          field-count = refl;
+          few-fields = lit≤ tt;
+          fields-held = refl;
+          rule-count = refl;
+          few-rules = lit≤ tt;
+          rules-held = no-rules;
+        };
       entries = refl;
       over = refl;
     }
