@@ -9,7 +9,7 @@ use lib.Seq.{getD-set-other}
 use Rattle.meaning.specs.Traces.{Choice, width, took, Trace, Apart, here, there}
 use Rattle.run.specs.declared.guide.Guide.{Guide as GuideUsed}
 use Rattle.run.specs.declared.guide.Guide.the-variants.{Recorded, Drawn}
-use Rattle.run.specs.Guides.{Noted, noted, Guide, recorded, drawn, Picks, NoPick, Guided, entries}
+use Rattle.run.specs.Guides.{Noted, noted, Guide, recorded, numbers, Picks, NoPick, Guided, entries}
 use Rattle.run.specs.Ways.{ahead}
 
 -- a write at a place leaves the entries past it
@@ -52,8 +52,8 @@ module _ (given : ℕ) (ps ws : List ℕ) (k : ℕ) (l : k < given) where
 pub picks-one : (g : Guide) (c : Choice) (j k : ℕ) (h i : Guide) → Picks g c j h → Picks g c k i → (j ≡ k) × (h ≡ i)
 picks-one (recorded []) c j k h i p q = (p .0 ∙ sym (q .0), p .1 ∙ sym (q .1))
 picks-one (recorded (noted x w ∷ es)) c j k h i p q = (p .0 ∙ sym (q .0), p .3 ∙ sym (q .3))
-picks-one (drawn []) c j k h i p q = absurd p
-picks-one (drawn (r ∷ ns)) c j k h i p q = (p .0 ∙ sym (q .0), p .1 ∙ sym (q .1))
+picks-one (numbers []) c j k h i p q = absurd p
+picks-one (numbers (r ∷ ns)) c j k h i p q = (p .0 ∙ sym (q .0), p .1 ∙ sym (q .1))
 
 pub guided-join : (g h i : Guide) (t u : Trace) → Guided g t h → Guided h u i → Guided g (t ++ u) i
 guided-join g h i [] u p q = subst (λ x. Guided x u i) p q

@@ -26,6 +26,7 @@ use Rattle.meaning.specs.Matching.{the-field, Settles, number, known, chosen, U
 use Rattle.meaning.proofs.Values.{in-getD}
 use Rattle.run.specs.declared.goal.Argument.the-variants.{Field, Number}
 use Rattle.run.specs.Ways.{Way, Chosen, Room, Fits}
+use Rattle.run.specs.Comparing.{Knows}
 use Rattle.run.specs.Settling.{Settled, Settling, KeepsValue}
 use Rattle.run.proofs.Ways.{took-none}
 
@@ -125,3 +126,11 @@ module _ (w : ℕ) (S : Marks) (f : ℕ) (sh : MarksOf w S) (inside : f < w) whe
 
     pub one-fits : length (values w S f) ≢ 1 → Fits z (Settling S (the-field f)) → Room 1 (z .trail)
     one-fits wide fits = fits .room (took 0 (among (length (values w S f))) ∷ []) (_, _, chosen 0 values-hold wide (some-values x))
+
+module _ (w : ℕ) (S : Marks) (f : ℕ) (sh : MarksOf w S) (inside : f < w) where
+  pub knows-one : (r : Option ℕ) → length (values w S f) ≡ 1 → Picks (values w S f) 0 r → Knows S (the-field f) r
+  knows-one None one p = absurd (omega arith)
+  knows-one (Some v) one p =
+      let xs = values w S f in
+      subst (λ q. Knows S (the-field f) (Some q)) (sym (p .1))
+      (subst (Values S f) (one-of xs one) (values-hold w S f sh inside), value-small w S f 0 (p .0))

@@ -12,14 +12,15 @@ use Rattle.refusal.specs.declared.Refusal.{Refusal}
 use Rattle.refusal.specs.Table.{number}
 use Rattle.marks.specs.Sets.{Marks}
 use Rattle.meaning.specs.Terms.{fields-of}
-use Rattle.meaning.specs.Traces.{Choice, width, took, Trace}
+use Rattle.meaning.specs.Traces.{width, took, Trace}
 use Rattle.meaning.specs.Runs.{Outcome, mark, dead-end, spent-run, Run}
 use Rattle.run.specs.declared.answer.Ended.{Ended}
 use Rattle.run.specs.declared.answer.Ended.the-variants.{Mark, DeadEnd, Spent}
 use Rattle.run.specs.declared.answer.Ran.{Ran}
 use Rattle.run.specs.declared.answer.Drew.{Drew}
 use Rattle.run.specs.declared.answer.Drew.the-variants.{Whole, Dry}
-use Rattle.run.specs.Guides.{Guide, recorded, drawn, Guided, entries}
+use Rattle.run.specs.Guides.{Guide, recorded, Guided, entries}
+use Rattle.meaning.specs.Draws.{Drawn, ran, dry, Draws}
 
 -- the sheet and the fuel of a run, and the number of fields and the starting set of its store
 pub record Setting : Type 0 where
@@ -84,17 +85,17 @@ pub record Written (before : Lists) (t : Trace) (after : Lists) : Type 0 where
   pub picks : after .picks ≡ over (picks-of t) (before .picks)
   pub widths : after .widths ≡ over (widths-of t) (before .widths)
 
--- the run that the guide g tells, of which h is left; the lists hold its trace, and there is no other such run
-pub record Runs (s : Setting) (g : Guide) (before : Lists) (a : Ran) (h : Guide) (after : Lists) : Type 0 where
+-- the run that follows the guide g to its end; the lists hold its trace, and there is no other such run
+pub record Runs (s : Setting) (g : Guide) (before : Lists) (a : Ran) (after : Lists) : Type 0 where
   pub trace : Trace
   pub outcome : Outcome
   pub run : Run (s .sheet) (s .fuel) (s .starting) trace outcome
-  pub guided : Guided g trace h
+  pub guided : Guided g trace (recorded [])
   pub only :
-      (t : Trace) (o : Outcome) (i : Guide)
+      (t : Trace) (o : Outcome)
       → Run (s .sheet) (s .fuel) (s .starting) t o
-      → Guided g t i
-      → (t ≡ trace) × (o ≡ outcome) × (i ≡ h)
+      → Guided g t (recorded [])
+      → (t ≡ trace) × (o ≡ outcome)
   pub long : a .length ≡ length trace
   pub written : Written before trace after
   pub told : outcome-of (a .ended) (s .fields) (after .mark) ≡ outcome
@@ -141,7 +142,7 @@ pub data Refuses (s : Setting) (given : ℕ) (l : Lists) (k : ℕ) : Type 0 wher
 -- what `follow` answers: the run that follows the given entries to their end, or a refusal that leaves the lists
 abbrev pub Follows : Setting → (given : ℕ) → Lists → Result Ran Refusal → Lists → Type 0
 Follows s given before (Ok a) after =
-    SameFields s × LongEnough (s .fuel) (s .fields) given before × Runs s (first-entries given before) before a (recorded []) after
+    SameFields s × LongEnough (s .fuel) (s .fields) given before × Runs s (first-entries given before) before a after
 Follows s given before (Err e) after = Refuses s given before (number e) × Untouched before after
 
 -- each mark of P is one of S
@@ -154,23 +155,30 @@ Leaves starting before after (Ok a) = Inside after starting
 Leaves starting before after (Err e) =
     (number e ≡ 14 → Inside after starting) × (number e ≢ 14 → after ≡ before)
 
--- a draw that is dry: the numbers ran out at a choice of a run; the lists hold its trace up to there, and no run
--- takes its picks from the numbers
-pub record RunsDry (s : Setting) (ns : List ℕ) (before : Lists) (n : ℕ) (after : Lists) : Type 0 where
+-- what a draw's answer tells: the outcome of a whole run, or dry
+abbrev pub drawn-of : Drew → (fields : ℕ) (marked : List ℕ) → Drawn
+drawn-of (Whole a) n m = ran (outcome-of (a .ended) n m)
+drawn-of (Dry k) n m = dry
+
+-- how many entries its trace has
+abbrev pub length-of : Drew → ℕ
+length-of (Whole a) = a .length
+length-of (Dry k) = k
+
+-- the mark list at the end of a draw
+abbrev pub drawn-filled : Drawn → List ℕ → List ℕ
+drawn-filled (ran o) ys = filled o ys
+drawn-filled dry ys = ys
+
+-- the one draw from the numbers ns, of which rest still wait; the lists hold its trace
+pub record DrawsTo (s : Setting) (ns rest : List ℕ) (before : Lists) (a : Drew) (after : Lists) : Type 0 where
   pub trace : Trace
-  pub choice : Choice
-  pub rest : Trace
-  pub outcome : Outcome
-  pub run : Run (s .sheet) (s .fuel) (s .starting) (trace ++ took 0 choice ∷ rest) outcome
-  pub guided : Guided (drawn ns) trace (drawn [])
-  pub none :
-      (t : Trace) (o : Outcome) (i : Guide)
-      → Run (s .sheet) (s .fuel) (s .starting) t o
-      → Guided (drawn ns) t i
-      → ⊥
-  pub long : n ≡ length trace
+  pub result : Drawn
+  pub draw : Draws (s .sheet) (s .fuel) (s .starting) ns result trace rest
+  pub long : length-of a ≡ length trace
   pub written : Written before trace after
-  pub marked : after .mark ≡ before .mark
+  pub told : drawn-of a (s .fields) (after .mark) ≡ result
+  pub marked : after .mark ≡ drawn-filled result (before .mark)
 
 -- when a draw is refused, with the number
 pub data RefusesDraw (s : Setting) (l : Lists) (k : ℕ) : Type 0 where
@@ -186,12 +194,9 @@ pub data RefusesDraw (s : Setting) (l : Lists) (k : ℕ) : Type 0 where
       → (LongEnough (s .fuel) (s .fields) 0 l → ⊥)
       → RefusesDraw s l k
 
--- what a draw answers: the run that the waiting numbers tell, with the rest still waiting, or that it is dry, or a
--- refusal that takes no number
-abbrev pub Draws : Setting → (waiting rest : List ℕ) → Lists → Result Drew Refusal → Lists → Type 0
-Draws s ns rest before (Ok (Whole a)) after =
-    SameFields s × LongEnough (s .fuel) (s .fields) 0 before × Runs s (drawn ns) before a (drawn rest) after
-Draws s ns rest before (Ok (Dry n)) after =
-    SameFields s × LongEnough (s .fuel) (s .fields) 0 before × RunsDry s ns before n after × (rest ≡ [])
-Draws s ns rest before (Err e) after =
+-- what `draw` answers: the draw from the waiting numbers, or a refusal that takes none and leaves the lists
+abbrev pub AnswersDraw : Setting → (waiting rest : List ℕ) → Lists → Result Drew Refusal → Lists → Type 0
+AnswersDraw s ns rest before (Ok a) after =
+    SameFields s × LongEnough (s .fuel) (s .fields) 0 before × DrawsTo s ns rest before a after
+AnswersDraw s ns rest before (Err e) after =
     RefusesDraw s before (number e) × Untouched before after × (rest ≡ ns)

@@ -1,12 +1,11 @@
 -- What tells a run its picks: the entries that an earlier run recorded, followed one by one, with pick 0 past their
 -- end; or the numbers that wait in a source, one number for each choice.
-use Prim.Native.Nat.{ℕ, zero, suc, _+_, _%_, _<_}
+use Prim.Native.Nat.{ℕ, zero, suc, _<_}
 use mathlib.Core.Path.{_≡_}
-use mathlib.Core.Bool.{cond}
 use mathlib.Core.List.{List, [], _∷_}
-use lib.Dec.{ltb}
 use lib.ListN.{getD}
-use Rattle.meaning.specs.Traces.{Choice, among, branch, width, took, Trace}
+use Rattle.meaning.specs.Traces.{Choice, width, took, Trace}
+use Rattle.meaning.specs.Draws.{drawn}
 
 -- an entry as it is recorded: the pick, and the width of its choice
 pub data Noted : Type 0 where
@@ -15,13 +14,7 @@ pub data Noted : Type 0 where
 -- the entries still to be followed, or the numbers still waiting
 pub data Guide : Type 0 where
   recorded : List Noted → Guide
-  drawn : List ℕ → Guide
-
--- the pick that the number r tells: among c numbers r modulo c; between weights v : w branch 0 when r modulo (v + w)
--- is below v, else branch 1
-abbrev pub told : (r : ℕ) → Choice → ℕ
-told r (among c) = r % c
-told r (branch v w) = cond (ltb (r % (v + w)) v) 0 1
+  numbers : List ℕ → Guide
 
 -- Picks g c k h: at the choice c the guide g tells the pick k, and h is left of it
 abbrev pub Picks : Guide → Choice → ℕ → Guide → Type 0
@@ -30,9 +23,9 @@ Picks (recorded []) c k h = (k ≡ 0) × (h ≡ recorded [])
 -- the recorded pick, where the recorded width is that of the choice and the pick is below it
 Picks (recorded (noted p w ∷ es)) c k h = (k ≡ p) × (w ≡ width c) × (p < width c) × (h ≡ recorded es)
 -- no number waits
-Picks (drawn []) c k h = ⊥
--- the next number tells the pick
-Picks (drawn (r ∷ ns)) c k h = (k ≡ told r c) × (h ≡ drawn ns)
+Picks (numbers []) c k h = ⊥
+-- the pick that the next number draws
+Picks (numbers (r ∷ ns)) c k h = (k ≡ drawn r c) × (h ≡ numbers ns)
 
 -- the guide tells no pick: an entry does not fit the choice, or no number waits
 abbrev pub NoPick : Guide → Choice → Type 0

@@ -3,3 +3,5 @@ pub mod Answering
 pub mod Ways
 pub mod Frames
 pub mod Settling
+pub mod Comparing
+pub mod Goals

@@ -11,7 +11,7 @@ use Rattle.run.specs.declared.guide.Choice.{Choice as ChoiceMade}
 use Rattle.run.specs.declared.guide.Choice.the-variants.{Among, Branch}
 use Rattle.run.specs.declared.guide.Guide.{Guide as GuideUsed}
 use Rattle.run.specs.declared.guide.Guide.the-variants.{Recorded, Drawn}
-use Rattle.run.specs.Guides.{Guide, recorded, drawn, Picks, NoPick, Guided, entries}
+use Rattle.run.specs.Guides.{Guide, recorded, numbers, Picks, NoPick, Guided, entries}
 
 -- the choice of the definitions
 abbrev pub choice-of : ChoiceMade → Choice
@@ -49,7 +49,7 @@ written z (took p c ∷ t) = written (put z p (width c)) t
 -- what guides a run on from place k: what is left of the given entries, or the numbers that wait
 abbrev pub ahead : GuideUsed → (picks widths : List ℕ) (k : ℕ) (waiting : List ℕ) → Guide
 ahead (Recorded given) ps ws k ns = recorded (entries ps ws k (given - k))
-ahead Drawn ps ws k ns = drawn ns
+ahead Drawn ps ws k ns = numbers ns
 
 -- a run under way: the trace so far, and what guides it on
 pub record Way : Type 0 where

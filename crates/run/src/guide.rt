@@ -2,7 +2,7 @@
 ghost use Prim.Native.Nat.{ℕ, _+_, _<_};
 ghost use mathlib.Core.Path.{_≡_};
 ghost use Rattle.meaning.specs.Traces.{width as widthOf};
-ghost use Rattle.run.specs.Guides.{told as toldBy};
+ghost use Rattle.meaning.specs.Draws.{drawn as drawnBy};
 ghost use Rattle.run.specs.Ways.{choice-of, Usable, Tells, trail, Room, way, Chosen};
 use source::Source;
 
@@ -31,10 +31,10 @@ impl Choice {
         }
     }
 
-    // The pick that a number tells.
-    fn told(self, number: u32) -> u16
+    // The pick that a number draws.
+    fn drawn(self, number: u32) -> u16
         requires { ⌜ Usable self ⌝ }
-        ensures { λ r. ⌜ (r ≡ toldBy number (choice-of self)) × (r < widthOf (choice-of self)) ⌝ }
+        ensures { λ r. ⌜ (r ≡ drawnBy number (choice-of self)) × (r < widthOf (choice-of self)) ⌝ }
     {
         match self {
             Choice::Among(count) => (number % count as u32) as u16,
@@ -69,7 +69,7 @@ impl Guide {
                 Some(picks[at])
             }
             Guide::Drawn => match source.take() {
-                Some(number) => Some(choice.told(number)),
+                Some(number) => Some(choice.drawn(number)),
                 None => None,
             },
         }

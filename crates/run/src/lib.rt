@@ -2,11 +2,8 @@
 pub mod answer;
 mod argument;
 mod compare;
-mod finish;
-pub mod follow;
 pub mod goal;
 mod guide;
 mod pass;
 mod settle;
 mod turn;
-mod work;

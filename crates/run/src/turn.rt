@@ -59,7 +59,7 @@ fn push(goals: &mut [Goal], d: &mut Depth, g: Goal)
 }
 
 // Takes the next goal off the stack and matches it, or puts its parts on the stack.
-pub(crate) fn turn<S: Store, R: Source>(sheet: &Sheet, store: &mut S, goals: &mut [Goal], frames: &mut [Frame], d: &mut Depth, picks: &mut [u16], widths: &mut [u16], at: &mut usize, guide: Guide, source: &mut R) -> Turn
+pub(crate) fn step<S: Store, R: Source>(sheet: &Sheet, store: &mut S, goals: &mut [Goal], frames: &mut [Frame], d: &mut Depth, picks: &mut [u16], widths: &mut [u16], at: &mut usize, guide: Guide, source: &mut R) -> Turn
     requires fields { ⌜ width (now store) ≡ now sheet .«field_count» ⌝ }
     requires some { ⌜ some (width (now store)) (current (now store)) ≡ true ⌝ }
     requires fit { ⌜ Fit (now sheet) (spot (now goals) (now frames) (now d)) ⌝ }
