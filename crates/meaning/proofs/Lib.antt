@@ -1,5 +1,4 @@
 pub mod Readings
-pub mod ReadSamples
 pub mod Basics
 pub mod Values
 pub mod Soundness
@@ -13,7 +12,9 @@ pub mod Runs
 pub mod Entries
 pub mod Lengths
 pub mod Picks
+pub mod Draws
 pub mod Walks
 pub mod Endings
 pub mod Listed
+pub mod Boxes
 pub mod Samples

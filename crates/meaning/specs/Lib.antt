@@ -1,7 +1,6 @@
 pub mod Terms
 pub mod Reading
 pub mod ReadingLaws
-pub mod ReadingSamples
 pub mod Traces
 pub mod Matching
 pub mod MatchingLaws
@@ -11,6 +10,7 @@ pub mod Runs
 pub mod RunLaws
 pub mod Lengths
 pub mod Picks
+pub mod Draws
 pub mod Walks
 pub mod WalkLaws
 pub mod Samples

@@ -1,0 +1,9 @@
+// Runs of a sheet over any store: along recorded picks, or by the numbers of a source.
+pub mod answer;
+mod argument;
+mod compare;
+pub mod goal;
+mod guide;
+mod pass;
+mod settle;
+mod turn;
