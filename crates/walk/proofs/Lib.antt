@@ -4,3 +4,5 @@ pub mod Standing
 pub mod Sheets
 pub mod Counts
 pub mod Laws
+pub mod Raising
+pub mod Stepping
