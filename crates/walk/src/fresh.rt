@@ -18,7 +18,11 @@ impl Walk {
             begun: false,
             finished: false,
             len: 0,
-            tallies: Tallies { issued: 0, dead: 0, spent: 0 },
+            tallies: Tallies {
+                issued: 0,
+                dead: 0,
+                spent: 0,
+            },
         }
     }
 }
