@@ -12,3 +12,4 @@ pub mod Arms
 pub mod Works
 pub mod Ended
 pub mod Running
+pub mod Answering

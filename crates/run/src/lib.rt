@@ -4,6 +4,7 @@ pub mod answer;
 mod argument;
 mod compare;
 mod finish;
+pub mod follow;
 pub mod goal;
 mod guide;
 mod pass;

@@ -8,7 +8,6 @@ use Rattle.marks.specs.Sets.{MarksOf, Empty}
 use Rattle.marks.specs.Counted.{some}
 use Rattle.marks.proofs.Counted.{none-empty}
 use Rattle.meaning.specs.Terms.{rules-of, mark-line, ranges-of, fields-of}
-use Rattle.meaning.specs.Lengths.{joins, FewJoins}
 use Rattle.meaning.specs.Runs.{inside, Ends, Run, mark}
 use Rattle.sheet.specs.Sheets.{tree-of}
 use Rattle.run.specs.declared.turn.Turn.the-variants.{Moved, Dead, Spent, Halted}
@@ -16,7 +15,7 @@ use Rattle.run.specs.Answering.{Inside}
 use Rattle.run.specs.Ways.{way, Took, Fits}
 use Rattle.run.specs.Works.{Worked, Matching, Ending, Finished}
 use Rattle.run.proofs.Settling.{some-alive}
-use Rattle.run.proofs.Tables.{fields-are, mark-is, line-joins, body-joins}
+use Rattle.run.proofs.Tables.{fields-are, few-joins}
 use Rattle.run.proofs.Ended.{inside-part}
 use Rattle.run.proofs.Running.{inside-counted, run-fits, dead-at-once, match-fits, match-halt, match-dead, match-spent, end-fits, end-halt, end-mark}
 use Rattle.run.proofs.along.along.Needs as need
@@ -70,9 +69,8 @@ work-requires g c κs =
     let C = inside-counted t S B in
     let left : some (st .width T) (st .current T) ≡ true = sym (c .begin .ensures .tells) ∙ c .if-not-begin .left in
     let alive : Empty I → ⊥ = subst (λ Q. Empty Q → ⊥) cur (some-alive (st .width T) (st .current T) left) in
-    let few : FewJoins t 16 = record { marked = subst (λ G. joins G ≤ 16) (sym (mark-is sh)) (line-joins sh (sh .«rule_count») (omega arith)); ruled = body-joins sh } in
     let eight : fields-of t ≤ 8 = omega (arith, fields-are sh, sh .«some_fields») in
-    let room = run-fits t n S B z (c .pre .begun) few (omega (arith, c .pre .picks, eight)) (omega (arith, c .pre .widths, eight)) in
+    let room = run-fits t n S B z (c .pre .begun) (few-joins sh) (omega (arith, c .pre .picks, eight)) (omega (arith, c .pre .widths, eight)) in
     record {
       fields = same .0 ∙ c .pre .fields;
       some = left;
@@ -104,9 +102,8 @@ returns-in-Halted g c =
     let C = inside-counted t S B in
     let left : some (st .width T) (st .current T) ≡ true = sym (c .begin .ensures .tells) ∙ c .if-not-begin .left in
     let alive : Empty I → ⊥ = subst (λ Q. Empty Q → ⊥) cur (some-alive (st .width T) (st .current T) left) in
-    let few : FewJoins t 16 = record { marked = subst (λ G. joins G ≤ 16) (sym (mark-is sh)) (line-joins sh (sh .«rule_count») (omega arith)); ruled = body-joins sh } in
     let eight : fields-of t ≤ 8 = omega (arith, fields-are sh, sh .«some_fields») in
-    let room = run-fits t n S B z (c .pre .begun) few (omega (arith, c .pre .picks, eight)) (omega (arith, c .pre .widths, eight)) in
+    let room = run-fits t n S B z (c .pre .begun) (few-joins sh) (omega (arith, c .pre .picks, eight)) (omega (arith, c .pre .widths, eight)) in
     let P = st .current (c .work .last .store) in
     let y = way guide (c .work .last .picks) (c .work .last .widths) (c .work .last .at) (waits (c .work .last .source)) in
     let worked = c .work .ensures .same in
@@ -139,9 +136,8 @@ returns-in-Dead g c =
     let C = inside-counted t S B in
     let left : some (st .width T) (st .current T) ≡ true = sym (c .begin .ensures .tells) ∙ c .if-not-begin .left in
     let alive : Empty I → ⊥ = subst (λ Q. Empty Q → ⊥) cur (some-alive (st .width T) (st .current T) left) in
-    let few : FewJoins t 16 = record { marked = subst (λ G. joins G ≤ 16) (sym (mark-is sh)) (line-joins sh (sh .«rule_count») (omega arith)); ruled = body-joins sh } in
     let eight : fields-of t ≤ 8 = omega (arith, fields-are sh, sh .«some_fields») in
-    let room = run-fits t n S B z (c .pre .begun) few (omega (arith, c .pre .picks, eight)) (omega (arith, c .pre .widths, eight)) in
+    let room = run-fits t n S B z (c .pre .begun) (few-joins sh) (omega (arith, c .pre .picks, eight)) (omega (arith, c .pre .widths, eight)) in
     let P = st .current (c .work .last .store) in
     let y = way guide (c .work .last .picks) (c .work .last .widths) (c .work .last .at) (waits (c .work .last .source)) in
     let worked = c .work .ensures .same in
@@ -174,9 +170,8 @@ returns-in-Spent g c =
     let C = inside-counted t S B in
     let left : some (st .width T) (st .current T) ≡ true = sym (c .begin .ensures .tells) ∙ c .if-not-begin .left in
     let alive : Empty I → ⊥ = subst (λ Q. Empty Q → ⊥) cur (some-alive (st .width T) (st .current T) left) in
-    let few : FewJoins t 16 = record { marked = subst (λ G. joins G ≤ 16) (sym (mark-is sh)) (line-joins sh (sh .«rule_count») (omega arith)); ruled = body-joins sh } in
     let eight : fields-of t ≤ 8 = omega (arith, fields-are sh, sh .«some_fields») in
-    let room = run-fits t n S B z (c .pre .begun) few (omega (arith, c .pre .picks, eight)) (omega (arith, c .pre .widths, eight)) in
+    let room = run-fits t n S B z (c .pre .begun) (few-joins sh) (omega (arith, c .pre .picks, eight)) (omega (arith, c .pre .widths, eight)) in
     let P = st .current (c .work .last .store) in
     let y = way guide (c .work .last .picks) (c .work .last .widths) (c .work .last .at) (waits (c .work .last .source)) in
     let worked = c .work .ensures .same in
@@ -209,9 +204,8 @@ finish-requires g c κs =
     let C = inside-counted t S B in
     let left : some (st .width T) (st .current T) ≡ true = sym (c .begin .ensures .tells) ∙ c .if-not-begin .left in
     let alive : Empty I → ⊥ = subst (λ Q. Empty Q → ⊥) cur (some-alive (st .width T) (st .current T) left) in
-    let few : FewJoins t 16 = record { marked = subst (λ G. joins G ≤ 16) (sym (mark-is sh)) (line-joins sh (sh .«rule_count») (omega arith)); ruled = body-joins sh } in
     let eight : fields-of t ≤ 8 = omega (arith, fields-are sh, sh .«some_fields») in
-    let room = run-fits t n S B z (c .pre .begun) few (omega (arith, c .pre .picks, eight)) (omega (arith, c .pre .widths, eight)) in
+    let room = run-fits t n S B z (c .pre .begun) (few-joins sh) (omega (arith, c .pre .picks, eight)) (omega (arith, c .pre .widths, eight)) in
     let P = st .current (c .work .last .store) in
     let y = way guide (c .work .last .picks) (c .work .last .widths) (c .work .last .at) (waits (c .work .last .source)) in
     let worked = c .work .ensures .same in
@@ -249,9 +243,8 @@ returns-in-None g c =
     let C = inside-counted t S B in
     let left : some (st .width T) (st .current T) ≡ true = sym (c .begin .ensures .tells) ∙ c .if-not-begin .left in
     let alive : Empty I → ⊥ = subst (λ Q. Empty Q → ⊥) cur (some-alive (st .width T) (st .current T) left) in
-    let few : FewJoins t 16 = record { marked = subst (λ G. joins G ≤ 16) (sym (mark-is sh)) (line-joins sh (sh .«rule_count») (omega arith)); ruled = body-joins sh } in
     let eight : fields-of t ≤ 8 = omega (arith, fields-are sh, sh .«some_fields») in
-    let room = run-fits t n S B z (c .pre .begun) few (omega (arith, c .pre .picks, eight)) (omega (arith, c .pre .widths, eight)) in
+    let room = run-fits t n S B z (c .pre .begun) (few-joins sh) (omega (arith, c .pre .picks, eight)) (omega (arith, c .pre .widths, eight)) in
     let P = st .current (c .work .last .store) in
     let y = way guide (c .work .last .picks) (c .work .last .widths) (c .work .last .at) (waits (c .work .last .source)) in
     let worked = c .work .ensures .same in
@@ -291,9 +284,8 @@ returns-in-Some g c =
     let C = inside-counted t S B in
     let left : some (st .width T) (st .current T) ≡ true = sym (c .begin .ensures .tells) ∙ c .if-not-begin .left in
     let alive : Empty I → ⊥ = subst (λ Q. Empty Q → ⊥) cur (some-alive (st .width T) (st .current T) left) in
-    let few : FewJoins t 16 = record { marked = subst (λ G. joins G ≤ 16) (sym (mark-is sh)) (line-joins sh (sh .«rule_count») (omega arith)); ruled = body-joins sh } in
     let eight : fields-of t ≤ 8 = omega (arith, fields-are sh, sh .«some_fields») in
-    let room = run-fits t n S B z (c .pre .begun) few (omega (arith, c .pre .picks, eight)) (omega (arith, c .pre .widths, eight)) in
+    let room = run-fits t n S B z (c .pre .begun) (few-joins sh) (omega (arith, c .pre .picks, eight)) (omega (arith, c .pre .widths, eight)) in
     let P = st .current (c .work .last .store) in
     let y = way guide (c .work .last .picks) (c .work .last .widths) (c .work .last .at) (waits (c .work .last .source)) in
     let worked = c .work .ensures .same in
