@@ -9,3 +9,7 @@ pub mod Passing
 pub mod Tables
 pub mod Turns
 pub mod Arms
+pub mod Works
+pub mod Ended
+pub mod Running
+pub mod Answering

@@ -11,7 +11,7 @@ use Rattle.formula.specs.Trees as tree
 use Rattle.formula.specs.Trees.{Formula, Rule, rule, compare, call, negate, pick, join, num}
 use Rattle.formula.specs.declared.Comparison.the-variants.{Equal}
 use Rattle.meaning.specs.Terms.{rules-of, ranges-of, fields-of, mark-line, body, formula-of}
-use Rattle.meaning.specs.Lengths.{joins}
+use Rattle.meaning.specs.Lengths.{joins, FewJoins}
 use Rattle.sheet.specs.declared.node.Name.{Name}
 use Rattle.sheet.specs.declared.node.Name.the-variants.{Field, Param}
 use Rattle.sheet.specs.declared.node.Shift.{Shift}
@@ -165,3 +165,11 @@ body-size s r h =
     let many : length (rules-of (tree-of s)) ≡ s .«rule_count» =
       ap length (rules-are s) ∙ length-map (take (s .«rule_count») (s .lines)) (rule-of (s .nodes)) ∙ length-take-le (s .«rule_count») (s .lines) long in
     subst (λ F. size F ≤ sizes-of (rules-of (tree-of s))) (body-is s r h) (size-in (rules-of (tree-of s)) r (omega (arith, many)))
+
+-- the mark line and the rules have few joins
+pub few-joins : (s : Sheet) → FewJoins (tree-of s) 16
+few-joins s =
+    record {
+      marked = subst (λ G. joins G ≤ 16) (sym (mark-is s)) (line-joins s (s .«rule_count») (omega arith));
+      ruled = body-joins s
+    }

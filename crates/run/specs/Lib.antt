@@ -5,3 +5,5 @@ pub mod Frames
 pub mod Settling
 pub mod Comparing
 pub mod Goals
+pub mod Works
+pub mod Whole
