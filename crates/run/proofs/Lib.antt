@@ -1,0 +1,15 @@
+pub mod Guides
+pub mod Ways
+pub mod Settling
+pub mod Frames
+pub mod Resolving
+pub mod Leaving
+pub mod Comparing
+pub mod Passing
+pub mod Tables
+pub mod Turns
+pub mod Arms
+pub mod Works
+pub mod Ended
+pub mod Running
+pub mod Answering

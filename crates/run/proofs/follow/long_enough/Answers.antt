@@ -1,0 +1,1 @@
+use Rattle.run.proofs.follow.long_enough.Needs as need
