@@ -10,7 +10,7 @@ use Rattle.std.proofs.shelf.Lists.{length-push}
 use Rattle.std.specs.Written.{decimal}
 use Rattle.std.specs.declared.result.Result.the-variants.{Ok}
 use Rattle.lines.specs.Lines.{Made}
-use Rattle.lines.specs.Putting.{Put, line-of, text-of}
+use Rattle.lines.specs.Putting.{Put, line-of, one-line, text-of}
 use Rattle.lines.specs.declared.labelled.Labelled.{Labelled}
 
 pub length-decimal-digit : (n : ℕ) → n < 10 → length (decimal n) ≡ 1
@@ -53,3 +53,6 @@ pub length-line-of :
     (p q r : Labelled)
     → length (line-of p q r) ≡ length (text-of p) + length (text-of q) + length (text-of r) + 1
 length-line-of p q r = simp length-append (omega arith)
+
+pub length-one-line : (p : Labelled) → length (one-line p) ≡ length (text-of p) + 1
+length-one-line p = simp length-append (omega arith)

@@ -35,6 +35,31 @@ abbrev pub signs-text : ℕ → ℕ → ℕ → List ℕ
 signs-text words numbers signs =
     three-text (codes "words ") words (codes " numbers ") numbers (codes " signs ") signs
 
+-- `fields N rules N formulas N`: how much a sheet has
+abbrev pub contents-text : ℕ → ℕ → ℕ → List ℕ
+contents-text fields rules formulas =
+    three-text (codes "fields ") fields (codes " rules ") rules (codes " formulas ") formulas
+
+-- a line of one number after its label
+abbrev pub one-text : List ℕ → ℕ → List ℕ
+one-text label n = labelled label n ++ line-feed
+
+-- `allowed N`: a mark that is allowed, and the calls that its reading made
+abbrev pub allowed-text : ℕ → List ℕ
+allowed-text calls = one-text (codes "allowed ") calls
+
+-- `not allowed N`
+abbrev pub not-allowed-text : ℕ → List ℕ
+not-allowed-text calls = one-text (codes "not allowed ") calls
+
+-- `spent N`
+abbrev pub spent-text : ℕ → List ℕ
+spent-text calls = one-text (codes "spent ") calls
+
+-- `refused N`: the number of a refusal
+abbrev pub refused-text : Refusal → List ℕ
+refused-text r = one-text (codes "refused ") (number r)
+
 -- `fault LAYER NUMBER PLACE`: why and where a text is refused
 abbrev pub fault-text : Fault → List ℕ
 fault-text f =

@@ -7,7 +7,7 @@ use mathlib.Core.Path.{_≡_}
 use denote.Ref.{now}
 use lib.ListN.{length, take, drop}
 use Rattle.std.specs.Orderings.{When}
-use Rattle.lines.specs.Lines.{labelled, three-text}
+use Rattle.lines.specs.Lines.{labelled, one-text, three-text}
 use Rattle.lines.specs.declared.labelled.Labelled.{Labelled}
 
 -- the answer is whether this many places hold the bytes
@@ -23,6 +23,10 @@ pub record Put (before : List ℕ) (at : ℕ) (bytes after : List ℕ) (to : ℕ
 -- the bytes of a number with its label
 abbrev pub text-of : Labelled → List ℕ
 text-of p = labelled (now (p .label)) (p .number)
+
+-- the line of one such number
+abbrev pub one-line : Labelled → List ℕ
+one-line p = one-text (now (p .label)) (p .number)
 
 -- the line of three such numbers
 abbrev pub line-of : Labelled → Labelled → Labelled → List ℕ

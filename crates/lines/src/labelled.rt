@@ -1,9 +1,9 @@
-// A line of three numbers, each after its label.
+// A line of one number or three, each after its label.
 ghost use Prim.Native.Nat.{_+_, _≤_};
 ghost use mathlib.Core.Path.{_≡_};
 ghost use lib.ListN.{length};
 ghost use Rattle.lines.specs.Lines.{Made};
-ghost use Rattle.lines.specs.Putting.{Put, line-of, text-of};
+ghost use Rattle.lines.specs.Putting.{Put, line-of, one-line, text-of};
 use crate::put;
 use refusal::Refusal;
 
@@ -40,7 +40,19 @@ impl<'a> Labelled<'a> {
     }
 }
 
-// Makes the line. The labels are short, so that the sum of the widths does not wrap.
+// Makes the line of one number.
+pub(crate) fn line_of_one(only: Labelled, out: &mut [u8]) -> Result<usize, Refusal>
+    requires { ⌜ length (now (only .label)) ≤ 16 ⌝ }
+    ensures { λ r. ⌜ Made (one-line (only .entry)) (now (out .entry)) (now (out .exit)) r ⌝ }
+{
+    if out.len() < only.width() + 1 {
+        return Err(Refusal::BufferTooShort);
+    }
+    let at = only.put(out, 0);
+    Ok(put::byte(out, at, b'\n'))
+}
+
+// Makes the line of three numbers. The labels are short, so that the sum of the widths does not wrap.
 pub(crate) fn line_of_three(
     first: Labelled,
     second: Labelled,

@@ -2,7 +2,8 @@
 ghost use mathlib.Core.Path.{_≡_};
 ghost use lib.ListN.{take};
 ghost use Rattle.std.specs.Vec.{made};
-ghost use Rattle.lines.specs.Lines.{Made, closing-text, fault-text, mark-text, signs-text};
+ghost use Rattle.lines.specs.Lines.{Made, allowed-text, closing-text, contents-text, fault-text, mark-text};
+ghost use Rattle.lines.specs.Lines.{not-allowed-text, refused-text, signs-text, spent-text};
 ghost use Rattle.lines.specs.Reading.{Lines-differ, Read-back, numbers-of};
 use labelled::Labelled;
 use refusal::Fault;
@@ -51,6 +52,46 @@ pub fn signs_line(words: u64, numbers: u64, signs: u64, out: &mut [u8]) -> Resul
         Labelled::new(b" signs ", signs),
         out,
     )
+}
+
+// `fields N rules N formulas N`
+pub fn contents_line(fields: u64, rules: u64, formulas: u64, out: &mut [u8]) -> Result<usize, Refusal>
+    ensures { λ r. ⌜ Made (contents-text fields rules formulas) (now (out .entry)) (now (out .exit)) r ⌝ }
+{
+    labelled::line_of_three(
+        Labelled::new(b"fields ", fields),
+        Labelled::new(b" rules ", rules),
+        Labelled::new(b" formulas ", formulas),
+        out,
+    )
+}
+
+// `allowed N`, a mark that is allowed and the calls that its reading made.
+pub fn allowed_line(calls: u64, out: &mut [u8]) -> Result<usize, Refusal>
+    ensures { λ r. ⌜ Made (allowed-text calls) (now (out .entry)) (now (out .exit)) r ⌝ }
+{
+    labelled::line_of_one(Labelled::new(b"allowed ", calls), out)
+}
+
+// `not allowed N`
+pub fn not_allowed_line(calls: u64, out: &mut [u8]) -> Result<usize, Refusal>
+    ensures { λ r. ⌜ Made (not-allowed-text calls) (now (out .entry)) (now (out .exit)) r ⌝ }
+{
+    labelled::line_of_one(Labelled::new(b"not allowed ", calls), out)
+}
+
+// `spent N`
+pub fn spent_line(calls: u64, out: &mut [u8]) -> Result<usize, Refusal>
+    ensures { λ r. ⌜ Made (spent-text calls) (now (out .entry)) (now (out .exit)) r ⌝ }
+{
+    labelled::line_of_one(Labelled::new(b"spent ", calls), out)
+}
+
+// `refused N`, the number of a refusal.
+pub fn refused_line(refusal: Refusal, out: &mut [u8]) -> Result<usize, Refusal>
+    ensures { λ r. ⌜ Made (refused-text refusal) (now (out .entry)) (now (out .exit)) r ⌝ }
+{
+    labelled::line_of_one(Labelled::new(b"refused ", refusal.number() as u64), out)
 }
 
 // `fault LAYER NUMBER PLACE`
