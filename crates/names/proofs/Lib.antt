@@ -17,3 +17,4 @@ pub mod Loops
 pub mod Covered
 pub mod Trees
 pub mod Known
+pub mod Made

@@ -2,3 +2,4 @@ pub mod Lists
 pub mod Names
 pub mod Faults
 pub mod Looking
+pub mod Resolving

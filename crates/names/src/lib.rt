@@ -4,6 +4,7 @@ mod entries;
 mod layout;
 mod lines;
 mod lookup;
+mod resolve;
 
 ghost use Rattle.names.specs.Faults.{One-verdict};
 

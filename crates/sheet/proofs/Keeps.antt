@@ -23,7 +23,7 @@ use Rattle.sheet.specs.declared.table.Sheet.{Sheet}
 use Rattle.sheet.specs.Table.{name-of, shift-of, term-of, node-at, line-at, range-at, whole, formula-within, formula-at}
 use Rattle.sheet.specs.Keeping.{known-name, known-shift, known-term, known-terms, is-weight, is-part, may-call, entry-kept, Within, size, sizes, formula-of}
 use Rattle.sheet.proofs.Holding.{parts-of}
-use Rattle.sheet.specs.Sheets.{range-of, rule-of, tree-of, KnownName, KnownShift, KnownTerm, KnownTerms, params-of, body-of, no-rule, KeptFormula, KeptLine, KeptRange, sizes-of, Kept, Every-sheet-keeps}
+use Rattle.sheet.specs.Sheets.{range-of, rule-of, tree-of, tree-of-parts, KnownName, KnownShift, KnownTerm, KnownTerms, params-of, body-of, no-rule, KeptFormula, KeptLine, KeptRange, sizes-of, Kept, Every-sheet-keeps}
 
 and-both : (x y : Bool) → (x && y) ≡ true → (x ≡ true) × (y ≡ true)
 and-both x y e = grind (arith, tells, e)
@@ -140,7 +140,7 @@ sizes-are nodes [] = refl
 sizes-are nodes (l ∷ lines) = ap (λ k. size (formula-at nodes (l .body)) + k) (sizes-are nodes lines)
 
 pub every-sheet-keeps : Every-sheet-keeps
-unfolding tree-of
+unfolding tree-of tree-of-parts
 every-sheet-keeps s =
     let long : s .«field_count» ≤ length (s .ranges) = omega (arith, s .long, s .«some_fields») in
     let fields : length (map range-of (take (s .«field_count») (s .ranges))) ≡ s .«field_count» =

@@ -150,3 +150,15 @@ sizes nodes (l ∷ lines) = size (formula-at nodes (l .body)) + sizes nodes line
 -- there are at most 256 formulas in all
 abbrev pub FewFormulas : ℕ → List Line → List Node → Type 0
 FewFormulas rules lines nodes = sizes nodes (take rules lines) + size (formula-of lines nodes rules) ≤ 256
+
+-- the parts of a sheet keep all of this
+pub record PartsKept (ranges : List Range) (fields : ℕ) (lines : List Line) (rules : ℕ) (nodes : List Node) : Type 0 where
+  pub some-fields : (1 ≤ fields) × (fields ≤ 8)
+  pub few-rules : rules ≤ 16
+  pub ranges-kept : RangesKept fields ranges
+  pub lines-kept : LinesKept rules lines
+  pub mark-plain : line-at lines rules .params ≡ 0
+  pub entries-kept : EntriesKept fields rules lines nodes
+  pub few-joins : FewJoins rules lines nodes
+  pub shallow : Shallow rules lines nodes
+  pub few-formulas : FewFormulas rules lines nodes

@@ -20,12 +20,15 @@ range-of r = tree.range (r .low) (r .high)
 abbrev pub rule-of : List Node → Line → tree.Rule
 rule-of nodes l = tree.rule (l .params) (formula-at nodes (l .body))
 
+-- the tree that the parts of a sheet stand for
+unfoldable pub tree-of-parts : List Range → (fields : ℕ) → List Line → (rules : ℕ) → List Node → tree.Sheet
+tree-of-parts ranges fields lines rules nodes =
+    tree.sheet (map range-of (take fields ranges)) (map (rule-of nodes) (take rules lines))
+    (formula-at nodes (mark-line rules lines .body))
+
 -- the tree that a sheet stands for
 unfoldable pub tree-of : Sheet → tree.Sheet
-tree-of s =
-    tree.sheet (map range-of (take (s .«field_count») (s .ranges)))
-    (map (rule-of (s .nodes)) (take (s .«rule_count») (s .lines)))
-    (formula-at (s .nodes) (mark-line (s .«rule_count») (s .lines) .body))
+tree-of s = tree-of-parts (s .ranges) (s .«field_count») (s .lines) (s .«rule_count») (s .nodes)
 
 -- one field 0 to 0, and the mark that the two numbers are equal
 abbrev pub comparing-tree : ℕ → ℕ → tree.Sheet

@@ -8,6 +8,7 @@ ghost use lib.ListN.{length};
 ghost use Rattle.sheet.specs.Keeping.{RangesKept, LinesKept, EntriesKept, FewJoins, Shallow, FewFormulas};
 ghost use Rattle.sheet.specs.Table.{mark-line};
 
+#[derive(Drop)]
 pub struct Sheet {
     pub ranges: [Range; 8],
     pub field_count: usize,
