@@ -18,3 +18,6 @@ pub mod Covered
 pub mod Trees
 pub mod Known
 pub mod Made
+pub mod TextTokens
+pub mod Summed
+pub mod Readings

@@ -5,6 +5,11 @@ mod layout;
 mod lines;
 mod lookup;
 mod resolve;
+mod summary;
+mod text;
+
+pub use summary::Contents;
+pub use text::read;
 
 ghost use Rattle.names.specs.Faults.{One-verdict};
 

@@ -15,11 +15,11 @@ use Rattle.grammar.specs.Syntax as written
 use Rattle.grammar.specs.Tokens.{tokens}
 use Rattle.grammar.specs.Grammar.{IsSheet}
 use Rattle.grammar.specs.Refusal as grammar
 use Rattle.names.specs.Faults.{Named, FirstFault}
 use Rattle.sheet.specs.declared.table.Sheet.{Sheet}
 use Rattle.sheet.specs.Sheets.{tree-of, sizes-of}
 use Rattle.sheet.specs.Keeping.{size}
-use Rattle.reader.specs.declared.contents.Contents.{Contents}
+use Rattle.names.specs.declared.summary.Contents.{Contents}
 
 -- SpellsSheet text v: the text spells the sheet v, names aside
 pub data SpellsSheet (text : List ℕ) : tree.Sheet → Type 0 where

@@ -1,1 +1,0 @@
-// Reads a sheet from its text.
