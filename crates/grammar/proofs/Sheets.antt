@@ -38,6 +38,8 @@ use Rattle.grammar.specs.Parsing.{Left, left, Says, says-field, says-rule, See
 use Rattle.grammar.proofs.Next.{not-field}
 use Rattle.grammar.proofs.Leaves.{no, refused-at, Stuck, stops, real, seen-as}
 use Rattle.grammar.proofs.Verdict.{refused}
+use Rattle.grammar.proofs.WellRead.{well-read}
+use Rattle.grammar.proofs.Places.{rises, small}
 
 -- The first line
 
@@ -264,8 +266,11 @@ module _ (text : List ℕ) (b : Table) where
             let fs = u .item in
             let rs = y .item in
             let blank : Lines text b [] [] = all-kept o (subst (LinesAbove text b [] []) (sym z) n) in
-            (sheet (f .0 ∷ fs .0) (rs .0) (m .0), a-sheet (f .1) (fs .1) (rs .1) (m .1),
-              m .2 (f .0 ∷ fs .0) (rs .0) (rs .2 (f .0 ∷ fs .0) [] (fs .2 (f .0 ∷ []) (f .2 [] blank))))
+            let s = sheet (f .0 ∷ fs .0) (rs .0) (m .0) in
+            let d : IsSheet (tokens ts) s = a-sheet (f .1) (fs .1) (rs .1) (m .1) in
+            (s, d,
+              m .2 (f .0 ∷ fs .0) (rs .0) (rs .2 (f .0 ∷ fs .0) [] (fs .2 (f .0 ∷ []) (f .2 [] blank))),
+              well-read (tokens ts) s d (rises cut .1) (small cut))
 
         pub parsed :
             (e : Table) (x : Result (Unit {0}) Fault)
