@@ -112,7 +112,13 @@ module _ (text : List ℕ) (p : ℕ) (t : Placed) (n : NextToken text p t) where
       (subst (λ z. Says text z (tokens.sign-token g) (t .place)) (sym e) (sign-says text g (t .place))))
 
 -- where no token comes next, none is left
-none-left : (text : List ℕ) (p : ℕ) (r : Next) → Follows text p r → ((t : Placed) → r ≡ next.Token t → ⊥) → (ts : List TokAt) → CutFrom text p ts → ts ≡ []
+none-left :
+    (text : List ℕ) (p : ℕ) (r : Next)
+    → Follows text p r
+    → ((t : Placed) → r ≡ next.Token t → ⊥)
+    → (ts : List TokAt)
+    → CutFrom text p ts
+    → ts ≡ []
 none-left text p (next.Token t) h k ts cut = absurd (k t refl)
 none-left text p next.End h k ts cut = h .only ts cut
 none-left text p (next.Fault f) h k ts cut = absurd (h .uncut ts cut)

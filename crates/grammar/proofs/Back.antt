@@ -23,9 +23,12 @@ term-back (lowered (word w p) n) r = a-difference
 module _
     (A : Type 0) (Item : Tokens → Tokens → A → Type 0) (write-one : A → Tokens → Tokens)
     (back-one : (a : A) (r : Tokens) → Item (write-one a r) r a) where
-  parted-back : (a : A) (bs : List A) (r : Tokens) → Parted A Item (write-one a (write-more A write-one bs r)) r (a ∷ bs)
+  parted-back :
+      (a : A) (bs : List A) (r : Tokens)
+      → Parted A Item (write-one a (write-more A write-one bs r)) r (a ∷ bs)
   parted-back a [] r = last (back-one a (at closing 0 ∷ r))
-  parted-back a (b ∷ bs) r = next (back-one a (at comma 0 ∷ write-one b (write-more A write-one bs r))) (parted-back b bs r)
+  parted-back a (b ∷ bs) r =
+      next (back-one a (at comma 0 ∷ write-one b (write-more A write-one bs r))) (parted-back b bs r)
 
   list-back : (bs : List A) (r : Tokens) → Listed A Item (write-list A write-one bs r) r bs
   list-back [] r = none

@@ -30,11 +30,15 @@ use Rattle.grammar.specs.Parsing.{Left, Says, says-closing, says-comma, Seen, 
 use Rattle.grammar.proofs.Leaves.{no, refused-at, Stuck, stops, real, seen-as}
 
 -- one item more
-mapped-more : {X A : Type 0} (of : X → A) (xs : List X) (x : X) (bs : List A) → map of xs ++ of x ∷ bs ≡ map of (xs ++ x ∷ []) ++ bs
+mapped-more :
+    {X A : Type 0} (of : X → A) (xs : List X) (x : X) (bs : List A)
+    → map of xs ++ of x ∷ bs ≡ map of (xs ++ x ∷ []) ++ bs
 mapped-more of [] x bs = refl
 mapped-more of (y ∷ xs) x bs = ap (λ l. of y ∷ l) (mapped-more of xs x bs)
 
-mapped-last : {X A : Type 0} (of : X → A) (xs : List X) (x : X) → map of xs ++ of x ∷ [] ≡ map of (xs ++ x ∷ [])
+mapped-last :
+    {X A : Type 0} (of : X → A) (xs : List X) (x : X)
+    → map of xs ++ of x ∷ [] ≡ map of (xs ++ x ∷ [])
 mapped-last of [] x = refl
 mapped-last of (y ∷ xs) x = ap (λ l. of y ∷ l) (mapped-last of xs x)
 
@@ -68,7 +72,11 @@ module _
   abbrev Due : Tokens → Few X → ℕ → Type 0
   Due xs list q = Begun text X A of Item listed (λ s. one (more s)) xs list q
 
-  pub none-came : (list : Few X) {q e : ℕ} {xs : Tokens} → Holds4 X list [] → Seen text xs class.Closing q e → ListCame xs list e
+  pub none-came :
+      (list : Few X) {q e : ℕ} {xs : Tokens}
+      → Holds4 X list []
+      → Seen text xs class.Closing q e
+      → ListCame xs list e
   none-came list h (a-token says-closing l) = record {
     rest = _;
     remains = l;
@@ -76,7 +84,13 @@ module _
     item = ([], h, none);
   }
 
-  pub first-due : (list : Few X) (k : Class) (p q e : ℕ) (xs : Tokens) → Holds4 X list [] → Left text p xs → (k ≡ class.Closing → ⊥) → Seen text xs k q e → Due xs list p
+  pub first-due :
+      (list : Few X) (k : Class) (p q e : ℕ) (xs : Tokens)
+      → Holds4 X list []
+      → Left text p xs
+      → (k ≡ class.Closing → ⊥)
+      → Seen text xs k q e
+      → Due xs list p
   first-due list k p q e xs h l z s = record {
     rest = xs;
     remains = l;
@@ -86,7 +100,9 @@ module _
     joins = λ r bs i. i;
   }
 
-  module _ (list then : Few X) (x : X) (p : ℕ) (keeps : (all : List X) → Holds4 X list all → Holds4 X then (all ++ x ∷ [])) where
+  module _
+      (list then : Few X) (x : X) (p : ℕ)
+      (keeps : (all : List X) → Holds4 X list all → Holds4 X then (all ++ x ∷ [])) where
     again :
         {xs zs : Tokens} {q e : ℕ} (b : Due xs list p)
         → ((s : State) (n : ℕ) (r : Tokens) → Halts s zs n r → Halts (one s) (b .rest) n r)
@@ -99,7 +115,8 @@ module _
       goes = λ s n r k. b .goes s n r (g (more s) n r (goes-on (moves .goes-more s) tt k));
       all = b .all ++ x ∷ [];
       held = keeps (b .all) (b .held);
-      joins = λ r bs k. subst (Parted A Item _ r) (mapped-more of (b .all) x bs) (b .joins r (of x ∷ bs) (next i k));
+      joins =
+          λ r bs k. subst (Parted A Item _ r) (mapped-more of (b .all) x bs) (b .joins r (of x ∷ bs) (next i k));
     }
 
     ended :
@@ -198,7 +215,9 @@ module _
         let r = real text e a k (λ z. no (cc)) in
         (omega (arith, d .0, o .0, r .0), r .1, λ xs l. due-again list then x q keeps e a (d .2 xs l) (o .2) k is)
 
-    pub list-read : a .class ≡ class.Closing → ListRead text p X A of Item listed (Ok (record { value = then; end = a .end }))
+    pub list-read :
+        a .class ≡ class.Closing
+        → ListRead text p X A of Item listed (Ok (record { value = then; end = a .end }))
     list-read is =
         let r = real text e a k (λ z. no (cc)) in
         (omega (arith, d .0, o .0, r .0), r .1, λ xs l. list-came list then x q keeps e a (d .2 xs l) (o .2) k is)
@@ -219,16 +238,33 @@ module _
   item-stops p q list f d o xs l = no-item list q f (d .2 xs l) o
 
 -- the terms of a call
-terms-stuck : {text : List ℕ} {k : Class} {s u : State} {t : Tok} {i : ℕ} {n : Need} → (k ≡ class.Comma → ⊥) → (k ≡ class.Closing → ⊥) → Move (more-terms s) t n u → Says text k t i → ⊥
+terms-stuck :
+    {text : List ℕ} {k : Class} {s u : State} {t : Tok} {i : ℕ} {n : Need}
+    → (k ≡ class.Comma → ⊥)
+    → (k ≡ class.Closing → ⊥)
+    → Move (more-terms s) t n u
+    → Says text k t i
+    → ⊥
 terms-stuck y z terms-end says-closing = z refl
 terms-stuck y z next-term says-comma = y refl
 
-not-terms : {text : List ℕ} {k : Class} {s v u : State} {t : Tok} {i : ℕ} {n : Need} → (k ≡ class.Closing → ⊥) → ((m : Need) (x : State) → Move (term v) t m x → ⊥) → Move (terms s) t n u → Says text k t i → ⊥
+not-terms :
+    {text : List ℕ} {k : Class} {s v u : State} {t : Tok} {i : ℕ} {n : Need}
+    → (k ≡ class.Closing → ⊥)
+    → ((m : Need) (x : State) → Move (term v) t m x → ⊥)
+    → Move (terms s) t n u
+    → Says text k t i
+    → ⊥
 not-terms z h no-terms says-closing = z refl
 not-terms z h first-number w = h _ _ term-number
 not-terms z h first-term w = h _ _ term-name
 
-terms-begin : {text : List ℕ} {k : Class} {q e n : ℕ} {s : State} {xs r : Tokens} → (k ≡ class.Closing → ⊥) → Seen text xs k q e → Halts (term (more-terms s)) xs n r → Halts (terms s) xs n r
+terms-begin :
+    {text : List ℕ} {k : Class} {q e n : ℕ} {s : State} {xs r : Tokens}
+    → (k ≡ class.Closing → ⊥)
+    → Seen text xs k q e
+    → Halts (term (more-terms s)) xs n r
+    → Halts (terms s) xs n r
 terms-begin z w (goes-on term-number a h) = goes-on first-number a h
 terms-begin z w (goes-on term-name a h) = goes-on first-term a h
 terms-begin z (a-token w l) (halts-token h) = halts-token (λ n u m. not-terms z h m w)
@@ -247,15 +283,32 @@ term-brackets = record {
 }
 
 -- the names of a rule
-names-stuck : {text : List ℕ} {k : Class} {s u : State} {t : Tok} {i : ℕ} {n : Need} → (k ≡ class.Comma → ⊥) → (k ≡ class.Closing → ⊥) → Move (more-names s) t n u → Says text k t i → ⊥
+names-stuck :
+    {text : List ℕ} {k : Class} {s u : State} {t : Tok} {i : ℕ} {n : Need}
+    → (k ≡ class.Comma → ⊥)
+    → (k ≡ class.Closing → ⊥)
+    → Move (more-names s) t n u
+    → Says text k t i
+    → ⊥
 names-stuck y z names-end says-closing = z refl
 names-stuck y z next-name says-comma = y refl
 
-not-names : {text : List ℕ} {k : Class} {s v u : State} {t : Tok} {i : ℕ} {n : Need} → (k ≡ class.Closing → ⊥) → ((m : Need) (x : State) → Move (expects some-name v) t m x → ⊥) → Move (names s) t n u → Says text k t i → ⊥
+not-names :
+    {text : List ℕ} {k : Class} {s v u : State} {t : Tok} {i : ℕ} {n : Need}
+    → (k ≡ class.Closing → ⊥)
+    → ((m : Need) (x : State) → Move (expects some-name v) t m x → ⊥)
+    → Move (names s) t n u
+    → Says text k t i
+    → ⊥
 not-names z h no-names says-closing = z refl
 not-names z h first-name w = h _ _ (asked is-name)
 
-names-begin : {text : List ℕ} {k : Class} {q e n : ℕ} {s : State} {xs r : Tokens} → (k ≡ class.Closing → ⊥) → Seen text xs k q e → Halts (expects some-name (more-names s)) xs n r → Halts (names s) xs n r
+names-begin :
+    {text : List ℕ} {k : Class} {q e n : ℕ} {s : State} {xs r : Tokens}
+    → (k ≡ class.Closing → ⊥)
+    → Seen text xs k q e
+    → Halts (expects some-name (more-names s)) xs n r
+    → Halts (names s) xs n r
 names-begin z w (goes-on (asked is-name) a h) = goes-on first-name a h
 names-begin z (a-token w l) (halts-token h) = halts-token (λ n u m. not-names z h m w)
 names-begin z w (halts-deep m e) = elim m [ ]

@@ -21,7 +21,8 @@ use Rattle.grammar.specs.Tables.{word-of, term-of, weights-of, node-at, Entrie
 use Rattle.grammar.specs.Parsing.{Holds4, Grown, Pushed, Entered}
 
 pub grown-none : (t : Table) → Grown t t
-grown-none t = record { fields = (refl, refl); rules = (refl, refl); others = (refl, refl); grows = omega arith; room = λ h. h; same = λ k lt. refl }
+grown-none t =
+    record { fields = (refl, refl); rules = (refl, refl); others = (refl, refl); grows = omega arith; room = λ h. h; same = λ k lt. refl }
 
 pub grown-more : {a b c : Table} → Grown a b → Grown b c → Grown a c
 grown-more g h = record {
@@ -49,8 +50,10 @@ pub entries-same :
     → Entries text ms s e f
 entries-same h (a-comparison {i} n t u) = a-comparison (h i (omega arith) ∙ n) t u
 entries-same h (a-call {i} n v c ts) = a-call (h i (omega arith) ∙ n) v c ts
-entries-same h (a-not {i = i} n e a) = a-not (h i (omega arith) ∙ n) e (entries-same (λ k le. h k (omega arith)) a)
-entries-same h (a-pick {i = i} n v e a) = a-pick (h i (omega arith) ∙ n) v e (entries-same (λ k le. h k (omega arith)) a)
+entries-same h (a-not {i =
+    i} n e a) = a-not (h i (omega arith) ∙ n) e (entries-same (λ k le. h k (omega arith)) a)
+entries-same h (a-pick {i =
+    i} n v e a) = a-pick (h i (omega arith) ∙ n) v e (entries-same (λ k le. h k (omega arith)) a)
 entries-same h (a-join {a = a} {b = b} {i = i} n v e x y) =
     let le = starts y in
     a-join (h i (omega arith) ∙ n) v e (entries-same (λ k l. h k (omega arith)) x) (entries-same (λ k l. h k (omega arith)) y)
@@ -95,7 +98,8 @@ module _ (text : List ℕ) {b a : Table} where
   }
 
 -- a whole after its part
-module _ (text : List ℕ) {b m a : Table} {i : ℕ} (part : Part) {f : Formula} (h : Entered text b m part f) where
+module _
+    (text : List ℕ) {b m a : Table} {i : ℕ} (part : Part) {f : Formula} (h : Entered text b m part f) where
   pub entered-not :
       Pushed m a (Negated (part .body)) i
       → Entered text b a (record { body = i; size = part .size + 1; joins = part .joins }) (negated f)

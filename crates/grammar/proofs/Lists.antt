@@ -12,7 +12,9 @@ module _ (X : Type 0) (list : Few X) (x : X) (all : List X) (h : Holds4 X list a
   longer : length (all ++ x ∷ []) ≡ length all + 1
   longer = length-append all (x ∷ [])
 
-  kept : list .count < 4 → Holds4 X (record { items = set (list .items) (list .count) x; count = list .count + 1 }) (all ++ x ∷ [])
+  kept :
+      list .count < 4
+      → Holds4 X (record { items = set (list .items) (list .count) x; count = list .count + 1 }) (all ++ x ∷ [])
   kept lt =
       let c = h .counts in
       let r = h .room in
@@ -26,7 +28,9 @@ module _ (X : Type 0) (list : Few X) (x : X) (all : List X) (h : Holds4 X list a
           ∙ sym (take-all 4 (all ++ x ∷ []) (omega arith));
       }
 
-  counted : 4 ≤ list .count → Holds4 X (record { items = list .items; count = list .count + 1 }) (all ++ x ∷ [])
+  counted :
+      4 ≤ list .count
+      → Holds4 X (record { items = list .items; count = list .count + 1 }) (all ++ x ∷ [])
   counted le =
       let c = h .counts in
       let r = h .room in

@@ -118,7 +118,12 @@ sum-of t =
       | sign c ↦ neither tt | opening ↦ neither tt | closing ↦ neither tt | comma ↦ neither tt
       | semicolon ↦ neither tt | colon ↦ neither tt | plus ↦ by-plus | minus ↦ by-minus ]
 
-pub not-summed : {t : Tok} {n : Need} {s u : State} → NoSum t → ((m : Need) (v : State) → Move s t m v → ⊥) → Move (summed s) t n u → ⊥
+pub not-summed :
+    {t : Tok} {n : Need} {s u : State}
+    → NoSum t
+    → ((m : Need) (v : State) → Move s t m v → ⊥)
+    → Move (summed s) t n u
+    → ⊥
 not-summed h k sum-plus = h
 not-summed h k sum-minus = h
 not-summed h k (no-sum z m) = k _ _ m
@@ -129,16 +134,30 @@ summed-of s by-minus k = moves sum-minus
 summed-of s (neither h) (moves m) = moves (no-sum h m)
 summed-of s (neither h) (stays k) = stays (λ n u m. not-summed h k m)
 
-pub not-named : {t : Tok} {n : Need} {l : Level} {o : Open} {u : State} → (Is opening-sign t → ⊥) → ((m : Need) (v : State) → Move (summed (compared-with l o)) t m v → ⊥) → Move (named l o) t n u → ⊥
+pub not-named :
+    {t : Tok} {n : Need} {l : Level} {o : Open} {u : State}
+    → (Is opening-sign t → ⊥)
+    → ((m : Need) (v : State) → Move (summed (compared-with l o)) t m v → ⊥)
+    → Move (named l o) t n u
+    → ⊥
 not-named h k unit-call = h is-opening
 not-named h k (unit-compares m) = k _ _ m
 
-named-of : {t : Tok} (l : Level) (o : Open) → Shaped opening-sign t → Next (summed (compared-with l o)) t → Next (named l o) t
+named-of :
+    {t : Tok} (l : Level) (o : Open)
+    → Shaped opening-sign t
+    → Next (summed (compared-with l o)) t
+    → Next (named l o) t
 named-of l o (like-it is-opening) k = moves unit-call
 named-of l o (unlike h) (moves m) = moves (unit-compares m)
 named-of l o (unlike h) (stays k) = stays (λ n u m. not-named h k m)
 
-pub not-field : {t : Tok} {n : Need} {u : State} → (Is field-word t → ⊥) → ((m : Need) (v : State) → Move rules t m v → ⊥) → Move fields t n u → ⊥
+pub not-field :
+    {t : Tok} {n : Need} {u : State}
+    → (Is field-word t → ⊥)
+    → ((m : Need) (v : State) → Move rules t m v → ⊥)
+    → Move fields t n u
+    → ⊥
 not-field h k line-field = h is-field
 not-field h k (no-field m) = k _ _ m
 
@@ -283,7 +302,11 @@ numbered-of j o t =
       | semicolon ↦ stays (λ _ _ m. elim m [ ]) | colon ↦ moves weight-colon
       | plus ↦ stays (λ _ _ m. elim m [ ]) | minus ↦ stays (λ _ _ m. elim m [ ]) ]
 
-pub not-joined : {t : Tok} {n : Need} {j : Join} {o : Open} {u : State} → ((m : Need) (v : State) → Move (a-unit (allowance o) (only j) o) t m v → ⊥) → Move (after-join j o) t n u → ⊥
+pub not-joined :
+    {t : Tok} {n : Need} {j : Join} {o : Open} {u : State}
+    → ((m : Need) (v : State) → Move (a-unit (allowance o) (only j) o) t m v → ⊥)
+    → Move (after-join j o) t n u
+    → ⊥
 not-joined k join-number = k _ _ unit-number
 not-joined k join-name = k _ _ unit-name
 not-joined k (join-opens m) = k _ _ m

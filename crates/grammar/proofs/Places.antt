@@ -57,7 +57,10 @@ rises (token t h c) =
 
 -- only a number is a number
 
-no-word : (w : List ℕ) (n : ℕ) (a b c d e f g : Bool) → cond a field (cond b rule (cond c mark (cond d (join And) (cond e (join Or) (cond f not (cond g pick (name w))))))) ≡ number n → ⊥
+no-word :
+    (w : List ℕ) (n : ℕ) (a b c d e f g : Bool)
+    → cond a field (cond b rule (cond c mark (cond d (join And) (cond e (join Or) (cond f not (cond g pick (name w))))))) ≡ number n
+    → ⊥
 no-word w n true b c d e f g h = no (cc)
 no-word w n false true c d e f g h = no (cc)
 no-word w n false false true d e f g h = no (cc)
@@ -89,10 +92,14 @@ none-there : (before after : Tokens) (x : Placed) → [] ≡ before ++ x ∷ aft
 none-there [] after x e = no (cc)
 none-there (y ∷ before) after x e = no (cc)
 
-pub small : {p : ℕ} {bytes rest : List ℕ} {ts : List TokAt} → Cut p bytes ts rest → SmallNumbers (tokens.tokens ts)
+pub small :
+    {p : ℕ} {bytes rest : List ℕ} {ts : List TokAt}
+    → Cut p bytes ts rest
+    → SmallNumbers (tokens.tokens ts)
 small stop before after n q e = absurd (none-there before after (at (number n) q) e)
 small (gap h c) before after n q e = small c before after n q e
-small (token {p} {w = w} {t = t} s h c) [] after n q e = let f : tokens.token t ≡ number n = cc in small-token t w n h f
+small (token {p} {w =
+    w} {t = t} s h c) [] after n q e = let f : tokens.token t ≡ number n = cc in small-token t w n h f
 small (token {ts = ts} s h c) (y ∷ before) after n q e =
     let f : tokens.tokens ts ≡ before ++ at (number n) q ∷ after = cc in
     small c before after n q f
