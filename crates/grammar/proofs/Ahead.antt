@@ -34,8 +34,8 @@ says-by :
     (text w : List ℕ) (p : ℕ) (a b c d e f g : Bool)
     → word-of text (record { place = p; length = length w }) ≡ word w p
     → Says text
-      (cond a class.Field (cond b class.Rule (cond c class.Mark (cond d (class.Join And) (cond e (class.Join Or) (cond f class.Not (cond g class.Pick (class.Name (record { place = p; length = length w })))))))))
-      (cond a field (cond b rule (cond c mark (cond d (join And) (cond e (join Or) (cond f not (cond g pick (name w)))))))) p
+    (cond a class.Field (cond b class.Rule (cond c class.Mark (cond d (class.Join And) (cond e (class.Join Or) (cond f class.Not (cond g class.Pick (class.Name (record { place = p; length = length w })))))))))
+    (cond a field (cond b rule (cond c mark (cond d (join And) (cond e (join Or) (cond f not (cond g pick (name w)))))))) p
 says-by text w p true b c d e f g h = says-field
 says-by text w p false true c d e f g h = says-rule
 says-by text w p false false true d e f g h = says-mark
@@ -89,9 +89,9 @@ module _ (text : List ℕ) (p : ℕ) (t : Placed) (n : NextToken text p t) where
   word-ahead w k is e = peeked k (λ us cut.
       let there = word-stands text (subst (λ z. CutFrom text p (signs.at (spelt z) (t .place) ∷ us)) is cut) refl in
       let says = says-by text (w .now) (t .place)
-        (sameBytes (w .now) (codes "field")) (sameBytes (w .now) (codes "rule")) (sameBytes (w .now) (codes "mark"))
-        (sameBytes (w .now) (codes "and")) (sameBytes (w .now) (codes "or")) (sameBytes (w .now) (codes "not"))
-        (sameBytes (w .now) (codes "pick")) (ap (λ z. word z (t .place)) there) in
+      (sameBytes (w .now) (codes "field")) (sameBytes (w .now) (codes "rule")) (sameBytes (w .now) (codes "mark"))
+      (sameBytes (w .now) (codes "and")) (sameBytes (w .now) (codes "or")) (sameBytes (w .now) (codes "not"))
+      (sameBytes (w .now) (codes "pick")) (ap (λ z. word z (t .place)) there) in
       subst (λ z. Says text k (tokens.token (spelt z)) (t .place)) (sym is)
       (subst (λ z. Says text z (tokens.word-token (w .now)) (t .place)) (sym e) says))
 

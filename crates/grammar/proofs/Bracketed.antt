@@ -50,15 +50,15 @@ pub record Brackets (listed more one : State → State) : Type 0 where
   pub unfinished : (s : State) → Unfinished (more s)
   -- only a comma or a closing bracket stands after an item
   pub stuck :
-    (text : List ℕ) (k : Class) → (k ≡ class.Comma → ⊥) → (k ≡ class.Closing → ⊥) → (s : State) → Stuck text k (more s)
+      (text : List ℕ) (k : Class) → (k ≡ class.Comma → ⊥) → (k ≡ class.Closing → ⊥) → (s : State) → Stuck text k (more s)
   -- where no closing bracket stands, a list begins with an item
   pub begins :
-    (text : List ℕ) (k : Class) (q e : ℕ) (xs : Tokens)
-    → (k ≡ class.Closing → ⊥)
-    → Seen text xs k q e
-    → (s : State) (n : ℕ) (r : Tokens)
-    → Halts (one (more s)) xs n r
-    → Halts (listed s) xs n r
+      (text : List ℕ) (k : Class) (q e : ℕ) (xs : Tokens)
+      → (k ≡ class.Closing → ⊥)
+      → Seen text xs k q e
+      → (s : State) (n : ℕ) (r : Tokens)
+      → Halts (one (more s)) xs n r
+      → Halts (listed s) xs n r
 
 module _
     (text : List ℕ) (X A : Type 0) (of : X → A) (Item : Tokens → Tokens → A → Type 0)
@@ -129,8 +129,11 @@ module _
       rest = _;
       remains = l;
       goes = λ s n r k. b .goes s n r (g (more s) n r (goes-on (moves .ends-more s) tt k));
-      item = (b .all ++ x ∷ [], keeps (b .all) (b .held),
-        some (subst (Parted A Item _ _) (mapped-last of (b .all) x) (b .joins _ (of x ∷ []) (last i))));
+      item = (
+        b .all ++ x ∷ [],
+        keeps (b .all) (b .held),
+        some (subst (Parted A Item _ _) (mapped-last of (b .all) x) (b .joins _ (of x ∷ []) (last i))),
+      );
     }
 
     pub due-again :

@@ -76,9 +76,9 @@ module _ (text : List ℕ) {b a : Table} where
     sized = refl;
     joined = refl;
     held = λ h.
-      let q = p .there (omega arith) in
-      let f = compared c (term-of text t) (term-of text u) in
-      (subst (λ s. Entries text (a .nodes) s i f) (q .0) (a-comparison (q .2) refl refl), q .1, omega (arith, q .0, q .1));
+        let q = p .there (omega arith) in
+        let f = compared c (term-of text t) (term-of text u) in
+        (subst (λ s. Entries text (a .nodes) s i f) (q .0) (a-comparison (q .2) refl refl), q .1, omega (arith, q .0, q .1));
   }
 
   pub entered-call :
@@ -90,11 +90,11 @@ module _ (text : List ℕ) {b a : Table} where
     sized = refl;
     joined = refl;
     held = λ r.
-      let q = p .there (omega arith) in
-      let f = called (word-of text v) (map (term-of text) all) in
-      let n = h .counts ∙ sym (length-map all (term-of text)) in
-      let ts = ap (map (term-of text)) (h .holds) ∙ sym (take-map (term-of text) 4 all) in
-      (subst (λ s. Entries text (a .nodes) s i f) (q .0) (a-call (q .2) refl n ts), q .1, omega (arith, q .0, q .1));
+        let q = p .there (omega arith) in
+        let f = called (word-of text v) (map (term-of text) all) in
+        let n = h .counts ∙ sym (length-map all (term-of text)) in
+        let ts = ap (map (term-of text)) (h .holds) ∙ sym (take-map (term-of text) 4 all) in
+        (subst (λ s. Entries text (a .nodes) s i f) (q .0) (a-call (q .2) refl n ts), q .1, omega (arith, q .0, q .1));
   }
 
 -- a whole after its part
@@ -107,10 +107,12 @@ module _
     sized = omega (arith, h .sized);
     joined = h .joined;
     held = λ r.
-      let k = h .held (omega arith) in
-      let q = p .there (omega (arith, k .1)) in
-      (a-not (q .2) (omega (arith, q .0, k .2)) (kept (p .grown) (omega (arith, k .2)) (k .0)),
-      omega (arith, q .1, k .1), omega (arith, q .0, q .1));
+        let k = h .held (omega arith) in
+        let q = p .there (omega (arith, k .1)) in (
+          a-not (q .2) (omega (arith, q .0, k .2)) (kept (p .grown) (omega (arith, k .2)) (k .0)),
+          omega (arith, q .1, k .1),
+          omega (arith, q .0, q .1),
+        );
   }
 
   pub entered-pick :
@@ -121,10 +123,12 @@ module _
     sized = omega (arith, h .sized);
     joined = h .joined;
     held = λ r.
-      let k = h .held (omega arith) in
-      let q = p .there (omega (arith, k .1)) in
-      (a-pick (q .2) refl (omega (arith, q .0, k .2)) (kept (p .grown) (omega (arith, k .2)) (k .0)),
-      omega (arith, q .1, k .1), omega (arith, q .0, q .1));
+        let k = h .held (omega arith) in
+        let q = p .there (omega (arith, k .1)) in (
+          a-pick (q .2) refl (omega (arith, q .0, k .2)) (kept (p .grown) (omega (arith, k .2)) (k .0)),
+          omega (arith, q .1, k .1),
+          omega (arith, q .0, q .1),
+        );
   }
 
 -- a join after its two parts
@@ -135,18 +139,20 @@ pub entered-join :
     → Entered text m n right g
     → Pushed n a (Joined j w (left .body) (right .body)) i
     → Entered text b a
-      (record { body = i; size = left .size + right .size + 1; joins = left .joins + right .joins + 1 })
-      (joined j (weights-of w) f g)
+    (record { body = i; size = left .size + right .size + 1; joins = left .joins + right .joins + 1 })
+    (joined j (weights-of w) f g)
 entered-join text {b} {m} {n} {a} {i} left right {f} {g} j w x h y p = record {
   sized = omega (arith, x .sized, y .sized);
   joined = omega (arith, x .joined, y .joined);
   held = λ r.
-    let k = x .held (omega arith) in
-    let l = y .held (omega (arith, k .1)) in
-    let q = p .there (omega (arith, k .1, l .1)) in
-    let e : m .«node_count» ≡ suc (left .body) = omega (arith, k .2) in
-    (a-join (q .2) refl (omega (arith, q .0, l .2))
-      (kept (grown-more h (p .grown)) (omega (arith, k .2)) (k .0))
-      (subst (λ s. Entries text (a .nodes) s (right .body) g) e (kept (p .grown) (omega (arith, l .2)) (l .0))),
-    omega (arith, q .1, k .1, l .1), omega (arith, q .0, q .1));
+      let k = x .held (omega arith) in
+      let l = y .held (omega (arith, k .1)) in
+      let q = p .there (omega (arith, k .1, l .1)) in
+      let e : m .«node_count» ≡ suc (left .body) = omega (arith, k .2) in (
+        a-join (q .2) refl (omega (arith, q .0, l .2))
+            (kept (grown-more h (p .grown)) (omega (arith, k .2)) (k .0))
+            (subst (λ s. Entries text (a .nodes) s (right .body) g) e (kept (p .grown) (omega (arith, l .2)) (l .0))),
+        omega (arith, q .1, k .1, l .1),
+        omega (arith, q .0, q .1),
+      );
 }

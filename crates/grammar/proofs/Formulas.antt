@@ -63,16 +63,20 @@ pub comparison-read :
     → TermRead text (c .end) (Ok u)
     → Pushed b a (node.Compared (c .value) t (u .value)) i
     → ComparisonRead text p t b a (Ok (record { value = record { body = i; size = 1; joins = 0 }; end = u .end }))
-comparison-read text p t i c u h k e = (omega (arith, h .0, k .0), k .1, λ xs l.
-    let v = h .2 xs l in
-    let w = k .2 (v .rest) (v .remains) in
-    record {
-      rest = w .rest;
-      remains = w .remains;
-      goes = λ o n r z. v .goes (term (more (o .0) (o .1))) n r (w .goes (more (o .0) (o .1)) n r z);
-      item =
-          λ d zs x. (_, compared-item (v .item) x (w .item), entered-comparison text (c .value) t (u .value) e);
-    })
+comparison-read text p t i c u h k e = (
+  omega (arith, h .0, k .0),
+  k .1,
+  λ xs l.
+      let v = h .2 xs l in
+      let w = k .2 (v .rest) (v .remains) in
+      record {
+        rest = w .rest;
+        remains = w .remains;
+        goes = λ o n r z. v .goes (term (more (o .0) (o .1))) n r (w .goes (more (o .0) (o .1)) n r z);
+        item =
+            λ d zs x. (_, compared-item (v .item) x (w .item), entered-comparison text (c .value) t (u .value) e);
+      },
+)
 
 call-item :
     {d i q : ℕ} {x : Word} {w : List ℕ} {xs us : Tokens} {ts : List Term}
@@ -87,15 +91,19 @@ pub call-read :
     → TermsRead text p (Ok list)
     → Pushed b a (node.Called v (list .value .count) (list .value .items)) i
     → CallRead text p v b a (Ok (record { value = record { body = i; size = 1; joins = 0 }; end = list .end }))
-call-read text p v i list h e = (h .0, h .1, λ xs l.
-    let m = h .2 xs l in
-    record {
-      rest = m .rest;
-      remains = m .remains;
-      goes = λ o n r z. m .goes (more (o .0) (o .1)) n r z;
-      item =
-          λ d w j q g. (_, call-item (m .item .2) g, entered-call text v (list .value) (m .item .0) (m .item .1) e);
-    })
+call-read text p v i list h e = (
+  h .0,
+  h .1,
+  λ xs l.
+      let m = h .2 xs l in
+      record {
+        rest = m .rest;
+        remains = m .remains;
+        goes = λ o n r z. m .goes (more (o .0) (o .1)) n r z;
+        item =
+            λ d w j q g. (_, call-item (m .item .2) g, entered-call text v (list .value) (m .item .0) (m .item .1) e);
+      },
+)
 
 -- Units that begin with a name
 
@@ -153,16 +161,20 @@ module _ (text : List ℕ) (p : ℕ) (h : Ahead) (k : Peeked text p h) (v : Word
       → SumRead text p v (Ok t)
       → ComparisonRead text (t .end) (t .value) b a r
       → NamedRead text p v b a r
-  compared-read t (Ok x) z s o = (omega (arith, s .0, o .0), o .1, λ xs l.
-      let m = s .2 xs l in
-      let w = o .2 (m .rest) (m .remains) in
-      record {
-        rest = w .rest;
-        remains = w .remains;
-        goes =
-            λ c n r y. halts-named z (k .seen xs l) (m .goes (compared-with (c .0) (c .1)) n r (w .goes c n r y));
-        item = λ d u i g. w .item d _ (m .item u i g);
-      })
+  compared-read t (Ok x) z s o = (
+    omega (arith, s .0, o .0),
+    o .1,
+    λ xs l.
+        let m = s .2 xs l in
+        let w = o .2 (m .rest) (m .remains) in
+        record {
+          rest = w .rest;
+          remains = w .remains;
+          goes =
+              λ c n r y. halts-named z (k .seen xs l) (m .goes (compared-with (c .0) (c .1)) n r (w .goes c n r y));
+          item = λ d u i g. w .item d _ (m .item u i g);
+        },
+  )
   compared-read t (Err f) z s o = λ xs l.
       let m = s .2 xs l in
       let w = o (m .rest) (m .remains) in
@@ -253,12 +265,16 @@ module _ (text : List ℕ) (p : ℕ) (h : Ahead) (k : Peeked text p h) where
       p ≤ length text
       → ((xs : Tokens) → Left text p xs → NoWeights xs)
       → WeightsRead text p (Ok (record { value = weights.Absent; end = p }))
-  absent-from le z = (omega arith, le, λ xs l. record {
-    rest = xs;
-    remains = l;
-    goes = λ c n r y. halts-joined (z xs l) y;
-    item = no-weights;
-  })
+  absent-from le z = (
+    omega arith,
+    le,
+    λ xs l. record {
+      rest = xs;
+      remains = l;
+      goes = λ c n r y. halts-joined (z xs l) y;
+      item = no-weights;
+    },
+  )
 
   pub absent-read :
       p ≤ length text
@@ -285,7 +301,7 @@ module _ (text : List ℕ) (p : ℕ) (h : Ahead) (k : Peeked text p h) where
         → NumberRead text e (Ok x)
         → Seen text us class.Colon q e
         → Came text (Join × Open) (λ c. after-join (c .0) (c .1)) (λ c. a-unit (allowance (c .1)) (only (c .0)) (c .1))
-          (at (number m) i ∷ us) (x .end) (λ r. IsWeights (at (number m) i ∷ us) r (given (num m i) (number-of (x .value))))
+        (at (number m) i ∷ us) (x .end) (λ r. IsWeights (at (number m) i ∷ us) r (given (num m i) (number-of (x .value))))
     given-came x o (a-token {xs = zs} says-colon l) =
         let v = o .2 zs l in
         record {
@@ -310,7 +326,7 @@ module _ (text : List ℕ) (p : ℕ) (h : Ahead) (k : Peeked text p h) where
         → NumberRead text (g .end) (Ok x)
         → Seen text xs (class.Number m) q (h .end)
         → Came text (Join × Open) (λ c. after-join (c .0) (c .1)) (λ c. a-unit (allowance (c .1)) (only (c .0)) (c .1))
-          xs (x .end) (λ r. IsWeights xs r (given (num m q) (number-of (x .value))))
+        xs (x .end) (λ r. IsWeights xs r (given (num m q) (number-of (x .value))))
     both-came x colon-is o (a-token {xs =
         us} says-number l) = given-came x o (seen-as text (h .end) g u colon-is us l)
 

@@ -73,14 +73,14 @@ module _ (text : List ℕ) where
     field-count = f .1 ∙ h .field-count;
     few-fields = h .few-fields;
     fields-held =
-      ap (λ k. map (field-of text) (take k (a .fields))) (f .1)
-      ∙ ap (λ l. map (field-of text) (take (b .«field_count») l)) (f .0) ∙ h .fields-held;
+        ap (λ k. map (field-of text) (take k (a .fields))) (f .1)
+        ∙ ap (λ l. map (field-of text) (take (b .«field_count») l)) (f .0) ∙ h .fields-held;
     rule-count = r .1 ∙ h .rule-count;
     few-rules = h .few-rules;
     rules-held =
-      subst (λ l. Rules text (a .nodes) 0 l rs e)
-      (sym (ap (λ k. take k (a .rules)) (r .1) ∙ ap (take (b .«rule_count»)) (r .0)))
-      (rules-same n (h .rules-held));
+        subst (λ l. Rules text (a .nodes) 0 l rs e)
+        (sym (ap (λ k. take k (a .rules)) (r .1) ∙ ap (take (b .«rule_count»)) (r .0)))
+        (rules-same n (h .rules-held));
   }
 
   -- entries added after those in use leave the lines as they are
@@ -114,8 +114,15 @@ module _ (text : List ℕ) where
   -- the table with the place of a line that passes a limit
   abbrev over-at : Table → ℕ → Table
   over-at b p = record {
-    fields = b .fields; «field_count» = b .«field_count»; rules = b .rules; «rule_count» = b .«rule_count»;
-    mark = b .mark; nodes = b .nodes; «node_count» = b .«node_count»; over = Some p }
+    fields = b .fields;
+    «field_count» = b .«field_count»;
+    rules = b .rules;
+    «rule_count» = b .«rule_count»;
+    mark = b .mark;
+    nodes = b .nodes;
+    «node_count» = b .«node_count»;
+    over = Some p;
+  }
 
   over-above :
       {b : Table} {fs : List Field} {rs : List Rule} {e p : ℕ}
@@ -146,19 +153,25 @@ module _ (text : List ℕ) where
       → b .«field_count» < 8
       → Lines text b fs []
       → Lines text (record {
-          fields = set (b .fields) (b .«field_count») line; «field_count» = b .«field_count» + 1;
-          rules = b .rules; «rule_count» = b .«rule_count»;
-          mark =
-              b .mark; nodes = b .nodes; «node_count» = b .«node_count»; over = b .over }) (fs ++ field-of text line ∷ []) []
+        fields = set (b .fields) (b .«field_count») line;
+        «field_count» = b .«field_count» + 1;
+        rules = b .rules;
+        «rule_count» = b .«rule_count»;
+        mark =
+            b .mark;
+        nodes = b .nodes;
+        «node_count» = b .«node_count»;
+        over = b .over;
+      }) (fs ++ field-of text line ∷ []) []
   field-stored b fs line room s lt (all-kept o h) =
       let n = longer fs (field-of text line) in
       all-kept o (record {
         field-count = omega (arith, h .field-count);
         few-fields = omega (arith, h .field-count);
         fields-held =
-          ap (map (field-of text)) (take-more-set (b .fields) (b .«field_count») line (omega arith))
-          ∙ map-last (field-of text) (take (b .«field_count») (b .fields)) line
-          ∙ ap (λ l. l ++ field-of text line ∷ []) (h .fields-held);
+            ap (map (field-of text)) (take-more-set (b .fields) (b .«field_count») line (omega arith))
+            ∙ map-last (field-of text) (take (b .«field_count») (b .fields)) line
+            ∙ ap (λ l. l ++ field-of text line ∷ []) (h .fields-held);
         rule-count = h .rule-count;
         few-rules = h .few-rules;
         rules-held = h .rules-held;
@@ -218,8 +231,13 @@ module _ (text : List ℕ) where
       -- the line, as it is stored
       abbrev line : RuleLine
       line = record {
-        first = first; name = head .name; params = head .params .items; «param_count» = head .params .count;
-        start = s; body = part .body }
+        first = first;
+        name = head .name;
+        params = head .params .items;
+        «param_count» = head .params .count;
+        start = s;
+        body = part .body;
+      }
 
       pub rule-stored :
           length (b .rules) ≡ 16
@@ -230,10 +248,16 @@ module _ (text : List ℕ) where
           → head .params .count ≤ 4
           → LinesKept text b fs rs s
           → Lines text (record {
-              fields = b .fields; «field_count» = b .«field_count»;
-              rules = set (b .rules) (b .«rule_count») line; «rule_count» = b .«rule_count» + 1;
-              mark = b .mark; nodes = b .nodes; «node_count» = b .«node_count»; over = b .over })
-            fs (rs ++ rule-line first (word-of text (head .name)) (map (word-of text) all) f ∷ [])
+            fields = b .fields;
+            «field_count» = b .«field_count»;
+            rules = set (b .rules) (b .«rule_count») line;
+            «rule_count» = b .«rule_count» + 1;
+            mark = b .mark;
+            nodes = b .nodes;
+            «node_count» = b .«node_count»;
+            over = b .over;
+          })
+          fs (rs ++ rule-line first (word-of text (head .name)) (map (word-of text) all) f ∷ [])
       rule-stored room is lt z not-over not-many (all-kept o h) =
           let fits : s + size f ≤ 256 = omega (arith, not-over, body .sized) in
           let k = body .held fits in
@@ -249,11 +273,11 @@ module _ (text : List ℕ) where
             rule-count = omega (arith, h .rule-count);
             few-rules = omega (arith, h .rule-count);
             rules-held =
-              subst (λ q. Rules text (b .nodes) 0 q (rs ++ rule-line first (word-of text (head .name)) (map (word-of text) all) f ∷ []) (b .«node_count»))
-              (sym (take-more-set (b .rules) (b .«rule_count») line (omega arith)))
-              (rules-more (h .rules-held)
+                subst (λ q. Rules text (b .nodes) 0 q (rs ++ rule-line first (word-of text (head .name)) (map (word-of text) all) f ∷ []) (b .«node_count»))
+                (sym (take-more-set (b .rules) (b .«rule_count») line (omega arith)))
+                (rules-more (h .rules-held)
                 (subst (Rules text (b .nodes) s (line ∷ []) (rule-line first (word-of text (head .name)) (map (word-of text) all) f ∷ [])) e
-                  (a-rule refl refl (c ∙ sym l) (ap (map (word-of text)) (few .holds ∙ take-all 4 all small)) refl (k .0) (λ v. z (passed v)) no-rules)));
+                (a-rule refl refl (c ∙ sym l) (ap (map (word-of text)) (few .holds ∙ take-all 4 all small)) refl (k .0) (λ v. z (passed v)) no-rules)));
           })
       rule-stored room is lt z x y (field-over w lo hi below o h d n e) = absurd (some-none o is)
       rule-stored room is lt z x y (rule-over w below o h d u e) = absurd (some-none o is)
@@ -296,11 +320,17 @@ module _ (text : List ℕ) where
         → s + part .size ≤ 256
         → LinesKept text b fs rs s
         → Holds text (record {
-            fields =
-                b .fields; «field_count» = b .«field_count»; rules = b .rules; «rule_count» = b .«rule_count»;
-            mark = record { first = first; start = s; body = part .body };
-            nodes =
-                b .nodes; «node_count» = b .«node_count»; over = b .over }) (sheet fs rs (mark-line first f))
+          fields =
+              b .fields;
+          «field_count» = b .«field_count»;
+          rules = b .rules;
+          «rule_count» = b .«rule_count»;
+          mark = record { first = first; start = s; body = part .body };
+          nodes =
+              b .nodes;
+          «node_count» = b .«node_count»;
+          over = b .over;
+        }) (sheet fs rs (mark-line first f))
     mark-stored is z fits (all-kept o h) =
         let k = body .held (omega (arith, body .sized)) in
         tables.whole o (above-same (refl, refl) (refl, refl) (λ i lt. refl) h) refl refl (k .0) (λ v. z (mark-passed v))

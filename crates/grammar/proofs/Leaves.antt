@@ -59,7 +59,7 @@ stops before f e (a-token {t = t} {p = p} {xs = xs} s l) h z = record {
   rest = at t p ∷ xs;
   there = ap (λ g. g .place) e;
   halts = λ c. subst (λ g. Halts (before c) (at t p ∷ xs) (table.number (g .refusal)) (at t p ∷ xs)) (sym e)
-    (halts-token (λ n u m. z c _ _ n u m s));
+      (halts-token (λ n u m. z c _ _ n u m s));
 }
 
 module _ (text : List ℕ) (p : ℕ) (a : Ahead) (h : Peeked text p a) where

@@ -113,25 +113,29 @@ module _ (text : List ℕ) (p : ℕ) (w : Read WordEntry) (h : NameRead text p (
             rest = s .rest;
             there = s .there;
             halts = λ _. v .goes (expects opening-sign (names rule-body)) _ _
-              (first-goes (y .1) (n .goes rule-body _ _ (s .halts (a-unit 16 any (whole of-rule)))));
+                (first-goes (y .1) (n .goes rule-body _ _ (s .halts (a-unit 16 any (whole of-rule)))));
           }
 
       pub head-read :
           (e : ℕ)
           → Expected text (ps .end) colon-sign (Ok e)
           → HeadRead text p (Ok (record { value = record { name = w .value; params = ps .value }; end = e }))
-      head-read e c = (omega (arith, h .0, g .0, u .0, c .0), c .1, λ xs l.
-          let v = h .2 xs l in
-          let y = g .2 (v .rest) (v .remains) in
-          let n = u .2 (y .0) (y .2) in
-          let z = c .2 (n .rest) (n .remains) in
-          record {
-            rest = z .0;
-            remains = z .2;
-            goes = λ _ k r q. v .goes (expects opening-sign (names rule-body)) k r
-              (first-goes (y .1) (n .goes rule-body k r (first-goes (z .1) q)));
-            item = head-item _ (n .item .0) (n .item .1) (v .item) (y .1) (n .item .2) (z .1);
-          })
+      head-read e c = (
+        omega (arith, h .0, g .0, u .0, c .0),
+        c .1,
+        λ xs l.
+            let v = h .2 xs l in
+            let y = g .2 (v .rest) (v .remains) in
+            let n = u .2 (y .0) (y .2) in
+            let z = c .2 (n .rest) (n .remains) in
+            record {
+              rest = z .0;
+              remains = z .2;
+              goes = λ _ k r q. v .goes (expects opening-sign (names rule-body)) k r
+                  (first-goes (y .1) (n .goes rule-body k r (first-goes (z .1) q)));
+              item = head-item _ (n .item .0) (n .item .1) (v .item) (y .1) (n .item .2) (z .1);
+            },
+      )
 
 -- The formula of a line
 
@@ -186,23 +190,27 @@ module _ (text : List ℕ) (p : ℕ) (b a : Table) where
           rest = v .rest;
           there = y .1;
           halts = λ n. v .goes (whole n, refl) _ _
-            (subst (λ k. Halts (more any (whole n)) (v .rest) k (v .rest)) (sym (y .0)) (not-ended n (v .rest) (v .item .1) (y .2)));
+              (subst (λ k. Halts (more any (whole n)) (v .rest) k (v .rest)) (sym (y .0)) (not-ended n (v .rest) (v .item .1) (y .2)));
         }
 
     pub body-read :
         (e : ℕ)
         → Expected text (x .end) semicolon-sign (Ok e)
         → BodyRead text p b a (Ok (record { value = x .value; end = e }))
-    body-read e g = (omega (arith, h .0, g .0), g .1, λ xs l.
-        let v = h .2 xs l in
-        let y = g .2 (v .rest) (v .remains) in
-        let f = v .item .0 in
-        record {
-          rest = y .0;
-          remains = y .2;
-          goes = λ n k r q. v .goes (whole n, refl) k r (ends-line n (y .1) q);
-          item = body-item (x .value) (f .1) (f .2) (y .1);
-        })
+    body-read e g = (
+      omega (arith, h .0, g .0),
+      g .1,
+      λ xs l.
+          let v = h .2 xs l in
+          let y = g .2 (v .rest) (v .remains) in
+          let f = v .item .0 in
+          record {
+            rest = y .0;
+            remains = y .2;
+            goes = λ n k r q. v .goes (whole n, refl) k r (ends-line n (y .1) q);
+            item = body-item (x .value) (f .1) (f .2) (y .1);
+          },
+    )
 
 -- Field lines
 
@@ -239,18 +247,22 @@ module _
       → Expected text (hi .end) semicolon-sign (Ok e)
       → FieldKept b a (record { first = i; name = w .value; low = lo .value; high = hi .value })
       → FieldRead text p i b a (Ok e)
-  field-read i e b a q kept = (omega (arith, h .0, g .0, k .0, q .0), q .1, λ xs l.
-      let v = h .2 xs l in
-      let x = g .2 (v .rest) (v .remains) in
-      let y = k .2 (x .rest) (x .remains) in
-      let z = q .2 (y .rest) (y .remains) in
-      record {
-        rest = z .0;
-        remains = z .2;
-        goes =
-            λ _ n r u. v .goes _ n r (x .goes _ n r (y .goes (expects semicolon-sign fields) n r (first-goes (z .1) u)));
-        item = (_, field-item (v .item) (x .item) (y .item) (z .1), λ fs u. kept text fs u);
-      })
+  field-read i e b a q kept = (
+    omega (arith, h .0, g .0, k .0, q .0),
+    q .1,
+    λ xs l.
+        let v = h .2 xs l in
+        let x = g .2 (v .rest) (v .remains) in
+        let y = k .2 (x .rest) (x .remains) in
+        let z = q .2 (y .rest) (y .remains) in
+        record {
+          rest = z .0;
+          remains = z .2;
+          goes =
+              λ _ n r u. v .goes _ n r (x .goes _ n r (y .goes (expects semicolon-sign fields) n r (first-goes (z .1) u)));
+          item = (_, field-item (v .item) (x .item) (y .item) (z .1), λ fs u. kept text fs u);
+        },
+  )
 
 -- Rule lines
 
@@ -267,11 +279,14 @@ rule-item :
     → HeadIs text head xs zs
     → BodyIs text b m part zs us
     → (f : Rule) × IsRule (at rule i ∷ xs) us f
-      × ((fs : List Field) (rs : List Rule) → Lines text b fs rs → Lines text a fs (rs ++ f ∷ []))
-rule-item {text} {a = a} i head part g kept (a-head all e few l) (a-body {f = f} r en) =
-    (rule-line i _ (map (word-of text) all) f, a-rule l r, λ fs rs h.
+    × ((fs : List Field) (rs : List Rule) → Lines text b fs rs → Lines text a fs (rs ++ f ∷ []))
+rule-item {text} {a = a} i head part g kept (a-head all e few l) (a-body {f = f} r en) = (
+  rule-line i _ (map (word-of text) all) f,
+  a-rule l r,
+  λ fs rs h.
       subst (λ w. Lines text a fs (rs ++ rule-line i w (map (word-of text) all) f ∷ [])) e
-      (kept text fs rs all f (lines-grown text g h) (g .grows) few (body-held part en)))
+      (kept text fs rs all f (lines-grown text g h) (g .grows) few (body-held part en)),
+)
 
 module _ (text : List ℕ) (p i : ℕ) (b : Table) where
   pub head-stops : (f : Fault) → HeadRead text p (Err f) → RuleRead text p i b b (Err f)
@@ -293,15 +308,19 @@ module _ (text : List ℕ) (p i : ℕ) (b : Table) where
         → BodyRead text (hd .end) b m (Ok x)
         → RuleKept m a i (hd .value) (b .«node_count») (x .value)
         → RuleRead text p i b a (Ok (x .end))
-    rule-read x g k kept = (omega (arith, h .0, k .0), k .1, λ xs l.
-        let v = h .2 xs l in
-        let w = k .2 (v .rest) (v .remains) in
-        record {
-          rest = w .rest;
-          remains = w .remains;
-          goes = λ _ n r q. v .goes tt n r (w .goes of-rule n r q);
-          item = rule-item i (hd .value) (x .value) g kept (v .item) (w .item);
-        })
+    rule-read x g k kept = (
+      omega (arith, h .0, k .0),
+      k .1,
+      λ xs l.
+          let v = h .2 xs l in
+          let w = k .2 (v .rest) (v .remains) in
+          record {
+            rest = w .rest;
+            remains = w .remains;
+            goes = λ _ n r q. v .goes tt n r (w .goes of-rule n r q);
+            item = rule-item i (hd .value) (x .value) g kept (v .item) (w .item);
+          },
+    )
 
 -- The mark line
 
@@ -322,10 +341,12 @@ mark-item :
     → BodyIs text b m part us zs
     → zs ≡ []
     → (f : Mark) × IsMark (at mark q ∷ us) [] f
-      × ((fs : List Field) (rs : List Rule) → Lines text b fs rs → Holds text a (sheet fs rs f))
-mark-item {text} q part {us} g kept (a-body {e = e} {f = f} r en) z =
-    (mark-line q f, a-mark (subst (λ v. Reads (formula any) 16 us (at semicolon e ∷ v) f) z r),
-      λ fs rs h. kept text fs rs f (lines-grown text g h) (body-held part en))
+    × ((fs : List Field) (rs : List Rule) → Lines text b fs rs → Holds text a (sheet fs rs f))
+mark-item {text} q part {us} g kept (a-body {e = e} {f = f} r en) z = (
+  mark-line q f,
+  a-mark (subst (λ v. Reads (formula any) 16 us (at semicolon e ∷ v) f) z r),
+  λ fs rs h. kept text fs rs f (lines-grown text g h) (body-held part en),
+)
 
 end-of : {text : List ℕ} {q e : ℕ} {xs : Tokens} → Seen text xs class.End q e → xs ≡ []
 end-of (no-token g) = refl
@@ -348,7 +369,7 @@ module _ (text : List ℕ) (p : ℕ) (b : Table) (h : Ahead) (k : Peeked text p 
     rest = at t q ∷ us;
     there = ap (λ v. v .place) g;
     halts = λ _. subst (λ v. Halts rules (at t q ∷ us) (table.number (v .refusal)) (at t q ∷ us)) (sym g)
-      (halts-token (λ n u m. not-a-rule m (λ e. y q us (ap (λ v. at v q ∷ us) e)) z s));
+        (halts-token (λ n u m. not-a-rule m (λ e. y q us (ap (λ v. at v q ∷ us) e)) z s));
   }
 
   pub no-mark :
@@ -394,7 +415,7 @@ module _ (text : List ℕ) (p : ℕ) (b : Table) (h : Ahead) (k : Peeked text p 
             rest = v .rest;
             there = ap (λ w. w .place) e ∙ y .0;
             halts = λ _. goes-on line-mark tt (v .goes of-mark _ _
-              (subst (λ w. Halts ended (v .rest) (table.number (w .refusal)) (v .rest)) (sym e) (y .1)));
+                (subst (λ w. Halts ended (v .rest) (table.number (w .refusal)) (v .rest)) (sym e) (y .1)));
           }
 
       pub more-stops :
@@ -411,7 +432,7 @@ module _ (text : List ℕ) (p : ℕ) (b : Table) (h : Ahead) (k : Peeked text p 
           → g .class ≡ class.End
           → Seen text xs class.Mark q (h .end)
           → (f : Mark) × IsMark xs [] f
-            × ((fs : List Field) (rs : List Rule) → Lines text b fs rs → Holds text a (sheet fs rs f))
+          × ((fs : List Field) (rs : List Rule) → Lines text b fs rs → Holds text a (sheet fs rs f))
       mark-came gr kept e (a-token {p = q} {xs = us} says-mark l) =
           let v = o .2 us l in
           mark-item q (x .value) gr kept (v .item) (end-of (seen-as text (x .end) g u e (v .rest) (v .remains)))
@@ -423,5 +444,5 @@ module _ (text : List ℕ) (p : ℕ) (b : Table) (h : Ahead) (k : Peeked text p 
           → g .class ≡ class.End
           → (xs : Tokens) → Left text p xs
           → (f : Mark) × IsMark xs [] f
-            × ((fs : List Field) (rs : List Rule) → Lines text b fs rs → Holds text a (sheet fs rs f))
+          × ((fs : List Field) (rs : List Rule) → Lines text b fs rs → Holds text a (sheet fs rs f))
       mark-read gr kept e xs l = mark-came gr kept e (seen-as text p h k is xs l)

@@ -23,9 +23,9 @@ module _ (X : Type 0) (list : Few X) (x : X) (all : List X) (h : Holds4 X list a
         room = length-set (list .items) (list .count) x ∙ r;
         counts = omega arith;
         holds =
-          take-more-set (list .items) (list .count) x (omega arith)
-          ∙ ap (λ l. l ++ x ∷ []) (h .holds ∙ take-all 4 all (omega arith))
-          ∙ sym (take-all 4 (all ++ x ∷ []) (omega arith));
+            take-more-set (list .items) (list .count) x (omega arith)
+            ∙ ap (λ l. l ++ x ∷ []) (h .holds ∙ take-all 4 all (omega arith))
+            ∙ sym (take-all 4 (all ++ x ∷ []) (omega arith));
       }
 
   counted :
@@ -39,10 +39,10 @@ module _ (X : Type 0) (list : Few X) (x : X) (all : List X) (h : Holds4 X list a
         room = r;
         counts = omega arith;
         holds =
-          take-all (list .count + 1) (list .items) (omega arith)
-          ∙ sym (take-all (list .count) (list .items) (omega arith))
-          ∙ h .holds
-          ∙ sym (take-append-le 4 all (x ∷ []) (omega arith));
+            take-all (list .count + 1) (list .items) (omega arith)
+            ∙ sym (take-all (list .count) (list .items) (omega arith))
+            ∙ h .holds
+            ∙ sym (take-append-le 4 all (x ∷ []) (omega arith));
       }
 
 pub kept-more :

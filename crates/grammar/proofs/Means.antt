@@ -108,7 +108,7 @@ module _ (L : Limits) where
       (m .0, _, line a-field (m .2), m .3)
   means-before p xs (no-field k) h m = (_, [], done, means-before p xs k h m)
   means-before p xs line-rule h m = rule-of p xs m
-  means-before p xs line-mark h m = 
+  means-before p xs line-mark h m =
       let v = whole-of any (whole of-mark) xs m in
       let f = subst (λ z. ReadsBy L (formula any) 16 xs (at semicolon (v .0) ∷ z) (v .2)) (v .4) (v .3) in
       (_, [], done, (mark-line p (v .2), a-mark f))

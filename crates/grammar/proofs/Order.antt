@@ -95,7 +95,7 @@ reads-sub zs (alone a) z = reads-sub zs a z
 reads-sub {xs = xs} zs (a-join {f = f} {g = g} {w = w} a h v b) z =
     both (formula-places f) (weights-places w ++ formula-places g) zs (token-places xs)
     (reads-sub ((weights-places w ++ formula-places g) ++ zs) a
-      (skip (both (weights-places w) (formula-places g) zs _ (weights-sub v (reads-sub zs b z)))))
+    (skip (both (weights-places w) (formula-places g) zs _ (weights-sub v (reads-sub zs b z)))))
 
 fields-sub :
     {xs r : Tokens} {fs : List Field} {zs : List ℕ}

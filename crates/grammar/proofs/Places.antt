@@ -83,8 +83,8 @@ no-sign (Compare c) n h = no (cc)
 small-token : (t : signs.Tok) (w : List ℕ) (n : ℕ) → Within t w → tokens.token t ≡ number n → n ≤ 1023
 small-token (signs.word u) w n h e =
     absurd (no-word u n
-      (sameBytes u (codes "field")) (sameBytes u (codes "rule")) (sameBytes u (codes "mark")) (sameBytes u (codes "and"))
-      (sameBytes u (codes "or")) (sameBytes u (codes "not")) (sameBytes u (codes "pick")) e)
+    (sameBytes u (codes "field")) (sameBytes u (codes "rule")) (sameBytes u (codes "mark")) (sameBytes u (codes "and"))
+    (sameBytes u (codes "or")) (sameBytes u (codes "not")) (sameBytes u (codes "pick")) e)
 small-token (signs.number m) w n h e = let f : m ≡ n = cc in omega (arith, h .1)
 small-token (signs.sign s) w n h e = absurd (no-sign s n e)
 

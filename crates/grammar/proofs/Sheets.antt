@@ -48,7 +48,7 @@ first-came :
     → FieldRead text e i b a (Ok q)
     → Seen text xs class.Field i e
     → Came text (Unit {0}) (λ _. start) (λ _. fields) xs q (λ us.
-        (f : Field) × IsField xs us f × ((fs : List Field) → Lines text b fs [] → Lines text a (fs ++ f ∷ []) []))
+    (f : Field) × IsField xs us f × ((fs : List Field) → Lines text b fs [] → Lines text a (fs ++ f ∷ []) []))
 first-came h (a-token {xs = us} says-field l) =
     let v = h .2 us l in
     record { rest = v .rest; remains = v .remains; goes = λ _ n r k. goes-on (asked is-field) tt (v .goes tt n r k); item = v .item }
@@ -117,20 +117,28 @@ not-ruled z (a-token says-rule l) = z refl
 
 module _ (text : List ℕ) (p : ℕ) (b : Table) where
   pub fields-none : p ≤ length text → FieldsSoFar text p b b p
-  fields-none le = (omega arith, le, λ xs l. record {
-    rest = xs;
-    remains = l;
-    goes = λ _ n r k. k;
-    item = ([], done, λ gs h. subst (λ z. Lines text b z []) (sym (append-nil gs)) h);
-  })
+  fields-none le = (
+    omega arith,
+    le,
+    λ xs l. record {
+      rest = xs;
+      remains = l;
+      goes = λ _ n r k. k;
+      item = ([], done, λ gs h. subst (λ z. Lines text b z []) (sym (append-nil gs)) h);
+    },
+  )
 
   pub rules-none : p ≤ length text → RulesSoFar text p b b p
-  rules-none le = (omega arith, le, λ xs l. record {
-    rest = xs;
-    remains = l;
-    goes = λ _ n r k. k;
-    item = ([], done, λ fs ps h. subst (λ z. Lines text b fs z) (sym (append-nil ps)) h);
-  })
+  rules-none le = (
+    omega arith,
+    le,
+    λ xs l. record {
+      rest = xs;
+      remains = l;
+      goes = λ _ n r k. k;
+      item = ([], done, λ fs ps h. subst (λ z. Lines text b fs z) (sym (append-nil ps)) h);
+    },
+  )
 
   module _ (t : Table) (q : ℕ) (h : Ahead) (k : Peeked text q h) where
     field-more :
@@ -141,7 +149,7 @@ module _ (text : List ℕ) (p : ℕ) (b : Table) where
         → FieldRead text e i t a (Ok g)
         → Seen text us class.Field i e
         → Came text (Unit {0}) (λ _. fields) (λ _. fields) xs g (λ us.
-            (fs : List Field) × Many Field IsField xs us fs × ((gs : List Field) → Lines text b gs [] → Lines text a (gs ++ fs) []))
+        (fs : List Field) × Many Field IsField xs us fs × ((gs : List Field) → Lines text b gs [] → Lines text a (gs ++ fs) []))
     field-more {a} {fs = fs} go m keep o (a-token {xs = zs} says-field l) =
         let v = o .2 zs l in
         let f = v .item in
@@ -149,8 +157,12 @@ module _ (text : List ℕ) (p : ℕ) (b : Table) where
           rest = v .rest;
           remains = v .remains;
           goes = λ _ n r z. go n r (goes-on line-field tt (v .goes tt n r z));
-          item = (fs ++ f .0 ∷ [], many-more m (f .1), λ gs z.
-            subst (λ y. Lines text a y []) (append-assoc gs fs (f .0 ∷ [])) (f .2 (gs ++ fs) (keep gs z)));
+          item = (
+            fs ++ f .0 ∷ [],
+            many-more m (f .1),
+            λ gs z.
+                subst (λ y. Lines text a y []) (append-assoc gs fs (f .0 ∷ [])) (f .2 (gs ++ fs) (keep gs z)),
+          );
         }
 
     pub fields-more :
@@ -160,11 +172,14 @@ module _ (text : List ℕ) (p : ℕ) (b : Table) where
         → FieldRead text (h .end) (h .place) t a (Ok g)
         → FieldsSoFar text p b a g
     fields-more g s is o =
-        let r = real text q h k (λ e. no (cc)) in
-        (omega (arith, s .0, r .0, o .0), o .1, λ xs l.
-          let v = s .2 xs l in
-          let f = v .item in
-          field-more (λ n r z. v .goes tt n r z) (f .1) (f .2) o (seen-as text q h k is (v .rest) (v .remains)))
+        let r = real text q h k (λ e. no (cc)) in (
+          omega (arith, s .0, r .0, o .0),
+          o .1,
+          λ xs l.
+              let v = s .2 xs l in
+              let f = v .item in
+              field-more (λ n r z. v .goes tt n r z) (f .1) (f .2) o (seen-as text q h k is (v .rest) (v .remains)),
+        )
 
     pub fields-end : FieldsSoFar text p b t q → (h .class ≡ class.Field → ⊥) → FieldsRead text p b t (Ok q)
     fields-end s z =
@@ -197,8 +212,8 @@ module _ (text : List ℕ) (p : ℕ) (b : Table) where
         → RuleRead text e i t a (Ok g)
         → Seen text us class.Rule i e
         → Came text (Unit {0}) (λ _. rules) (λ _. rules) xs g (λ us.
-            (rs : List Rule) × Many Rule IsRule xs us rs
-            × ((fs : List Field) (ps : List Rule) → Lines text b fs ps → Lines text a fs (ps ++ rs)))
+        (rs : List Rule) × Many Rule IsRule xs us rs
+        × ((fs : List Field) (ps : List Rule) → Lines text b fs ps → Lines text a fs (ps ++ rs)))
     rule-more {a} {rs = rs} go m keep o (a-token {xs = zs} says-rule l) =
         let v = o .2 zs l in
         let f = v .item in
@@ -206,8 +221,12 @@ module _ (text : List ℕ) (p : ℕ) (b : Table) where
           rest = v .rest;
           remains = v .remains;
           goes = λ _ n r z. go n r (goes-on line-rule tt (v .goes tt n r z));
-          item = (rs ++ f .0 ∷ [], many-more m (f .1), λ fs ps z.
-            subst (λ y. Lines text a fs y) (append-assoc ps rs (f .0 ∷ [])) (f .2 fs (ps ++ rs) (keep fs ps z)));
+          item = (
+            rs ++ f .0 ∷ [],
+            many-more m (f .1),
+            λ fs ps z.
+                subst (λ y. Lines text a fs y) (append-assoc ps rs (f .0 ∷ [])) (f .2 fs (ps ++ rs) (keep fs ps z)),
+          );
         }
 
     pub rules-more :
@@ -217,11 +236,14 @@ module _ (text : List ℕ) (p : ℕ) (b : Table) where
         → RuleRead text (h .end) (h .place) t a (Ok g)
         → RulesSoFar text p b a g
     rules-more g s is o =
-        let r = real text q h k (λ e. no (cc)) in
-        (omega (arith, s .0, r .0, o .0), o .1, λ xs l.
-          let v = s .2 xs l in
-          let f = v .item in
-          rule-more (λ n r z. v .goes tt n r z) (f .1) (f .2) o (seen-as text q h k is (v .rest) (v .remains)))
+        let r = real text q h k (λ e. no (cc)) in (
+          omega (arith, s .0, r .0, o .0),
+          o .1,
+          λ xs l.
+              let v = s .2 xs l in
+              let f = v .item in
+              rule-more (λ n r z. v .goes tt n r z) (f .1) (f .2) o (seen-as text q h k is (v .rest) (v .remains)),
+        )
 
     pub rules-end : RulesSoFar text p b t q → (h .class ≡ class.Rule → ⊥) → RulesRead text p b t (Ok q)
     rules-end s z =
@@ -324,10 +346,12 @@ module _ (text : List ℕ) (b : Table) where
             let rs = y .item in
             let blank : Lines text b [] [] = all-kept o (subst (LinesAbove text b [] []) (sym z) n) in
             let s = sheet (f .0 ∷ fs .0) (rs .0) (m .0) in
-            let d : IsSheet (tokens ts) s = a-sheet (f .1) (fs .1) (rs .1) (m .1) in
-            (s, d,
+            let d : IsSheet (tokens ts) s = a-sheet (f .1) (fs .1) (rs .1) (m .1) in (
+              s,
+              d,
               m .2 (f .0 ∷ fs .0) (rs .0) (rs .2 (f .0 ∷ fs .0) [] (fs .2 (f .0 ∷ []) (f .2 [] blank))),
-              well-read (tokens ts) s d (rises cut .1) (small cut))
+              well-read (tokens ts) s d (rises cut .1) (small cut),
+            )
 
         pub parsed :
             (e : Table) (x : Result (Unit {0}) Fault)

@@ -153,7 +153,7 @@ reads-taken {L} (alone {d} {l} {xs} b) = λ o t p ys e h z a.
     reads-taken b l o (subst Apart (sym e) (ends-apart h)) (subst (Accepts L (more l o)) (sym e) a)
 reads-taken {L} (a-join {d} {l = l} {zs = zs} {j = j} b n w c) = λ o t p ys e h z a.
     reads-taken b l o tt (takes next-join n (weights-taken w
-      (subst (λ m. Accepts L (a-unit m (only j) o) zs) (sym z) (reads-taken c o t p ys e h z (ends-alike h a)))))
+    (subst (λ m. Accepts L (a-unit m (only j) o) zs) (sym z) (reads-taken c o t p ys e h z (ends-alike h a)))))
 
 module _ {L : Limits} where
   fields-taken :
@@ -173,7 +173,7 @@ module _ {L : Limits} where
   rules-taken done a = a
   rules-taken (line (a-rule {e = e} {r = r} n f) m) a =
       takes line-rule tt (takes (asked is-name) tt (takes (asked is-opening) tt (names-taken n (takes (asked is-colon) tt
-        (reads-taken f (whole of-rule) semicolon e r refl by-semicolon refl (takes rule-end tt (rules-taken m a)))))))
+      (reads-taken f (whole of-rule) semicolon e r refl by-semicolon refl (takes rule-end tt (rules-taken m a)))))))
 
   no-fields : {xs : Tokens} → Accepts L rules xs → Accepts L fields xs
   no-fields (takes m n a) = takes (no-field m) n a
@@ -186,4 +186,4 @@ module _ {L : Limits} where
   pub sheet-taken : {xs : Tokens} {s : Sheet} → SheetBy L xs s → Accepts L start xs
   sheet-taken (a-sheet a-field fs rs m) =
       takes (asked is-field) tt (takes (asked is-name) tt (takes (asked is-number) tt (takes (asked is-number) tt (takes (asked is-semicolon) tt
-        (fields-taken fs (no-fields (rules-taken rs (mark-taken m))))))))
+      (fields-taken fs (no-fields (rules-taken rs (mark-taken m))))))))

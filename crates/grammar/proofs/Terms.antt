@@ -237,9 +237,13 @@ module _ (text : List ℕ) (p : ℕ) (a : Ahead) (h : Peeked text p a) where
       → (a .class ≡ class.Plus → ⊥)
       → (a .class ≡ class.Minus → ⊥)
       → SumRead text p v (Ok (record { value = entry.Bare v; end = p }))
-  bare-read v le z y = (omega arith, le, λ xs l. record {
-    rest = xs;
-    remains = l;
-    goes = λ s n r k. falls z y (h .seen xs l) k;
-    item = λ w i g. subst (λ b. IsTerm (at (name w) i ∷ xs) xs (bare b)) (sym g) a-bare;
-  })
+  bare-read v le z y = (
+    omega arith,
+    le,
+    λ xs l. record {
+      rest = xs;
+      remains = l;
+      goes = λ s n r k. falls z y (h .seen xs l) k;
+      item = λ w i g. subst (λ b. IsTerm (at (name w) i ∷ xs) xs (bare b)) (sym g) a-bare;
+    },
+  )

@@ -248,7 +248,7 @@ module _ (text : List ℕ) (d : ℕ) (b a : Table) where
         rest = v .rest;
         there = y .1;
         halts = λ c. goes-on unit-bracket lt (v .goes (inner (d - 1) (c .0) (c .1), refl) _ _
-          (subst (λ n. Halts (more any (inner (d - 1) (c .0) (c .1))) (v .rest) n (v .rest)) (sym (y .0)) (not-closed (v .rest) (v .item .1) (y .2))));
+            (subst (λ n. Halts (more any (inner (d - 1) (c .0) (c .1))) (v .rest) n (v .rest)) (sym (y .0)) (not-closed (v .rest) (v .item .1) (y .2))));
       }
 
   -- a token that opens a level too many
@@ -477,15 +477,19 @@ module _ (text : List ℕ) (d p : ℕ) (l : Level) where
       → Peeked text (x .end) h
       → ((j : Join) → h .class ≡ class.Join j → ⊥)
       → FormulaRead text d l p b a (Ok x)
-  alone-formula x h o k z = (o .0, o .1, λ xs r.
-      let v = o .2 xs r in
-      let f = v .item in
-      record {
-        rest = v .rest;
-        remains = v .remains;
-        goes = λ c n y w. v .goes (l, c .0) n y w;
-        item = ((f .0, alone (f .1), f .2), no-join z (k .seen (v .rest) (v .remains)));
-      })
+  alone-formula x h o k z = (
+    o .0,
+    o .1,
+    λ xs r.
+        let v = o .2 xs r in
+        let f = v .item in
+        record {
+          rest = v .rest;
+          remains = v .remains;
+          goes = λ c n y w. v .goes (l, c .0) n y w;
+          item = ((f .0, alone (f .1), f .2), no-join z (k .seen (v .rest) (v .remains)));
+        },
+  )
 
   pub first-stops :
       (b a : Table) (f : Fault)
@@ -528,7 +532,7 @@ module _ (text : List ℕ) (d p : ℕ) (l : Level) where
         → ((c : Around) (n : ℕ) (r : Tokens) → Halts (more (c .0) (c .1)) zs n r → Halts (a-unit d (c .0) (c .1)) xs n r)
         → Seen text zs (class.Join j) q e
         → (us : Tokens) × Left text e us × (zs ≡ at (join j) q ∷ us)
-          × ((o : Open) (n : ℕ) (r : Tokens) → Halts (after-join j o) us n r → Halts (a-unit d l o) xs n r)
+        × ((o : Open) (n : ℕ) (r : Tokens) → Halts (after-join j o) us n r → Halts (a-unit d l o) xs n r)
     joined-halts fit g (a-token {xs =
         us} says-join y) = (us, y, refl, λ o n r z. g (l, o) n r (goes-on next-join fit z))
 
@@ -558,7 +562,7 @@ module _ (text : List ℕ) (d p : ℕ) (l : Level) where
           rest = s .rest;
           there = s .there;
           halts = λ c. y .3 (c .0) _ _ (i .goes (j, c .0) _ _
-            (subst (λ e. Halts (a-unit e (only j) (c .0)) (i .rest) (table.number (f .refusal)) (s .rest)) (sym (c .1)) (s .halts c)));
+              (subst (λ e. Halts (a-unit e (only j) (c .0)) (i .rest) (table.number (f .refusal)) (s .rest)) (sym (c .1)) (s .halts c)));
         }
 
     pub join-formula :
@@ -569,27 +573,31 @@ module _ (text : List ℕ) (d p : ℕ) (l : Level) where
         → FormulaRead text d (only j) (w .end) m n (Ok y)
         → Pushed n a (node.Joined j (w .value) (x .value .body) (y .value .body)) i
         → FormulaRead text d l p b a (Ok (record {
-            value =
-                record { body = i; size = x .value .size + y .value .size + 1; joins = x .value .joins + y .value .joins + 1 };
-            end = y .end }))
+          value =
+              record { body = i; size = x .value .size + y .value .size + 1; joins = x .value .joins + y .value .joins + 1 };
+          end = y .end;
+        }))
     join-formula w y fit u gr g e =
-        let r = real text (x .end) h k (λ z. no (cc)) in
-        (omega (arith, o .0, r .0, u .0, g .0), g .1, λ xs s.
-          let v = o .2 xs s in
-          let q = joined-halts fit (v .goes) (seen-as text (x .end) h k is (v .rest) (v .remains)) in
-          let i = u .2 (q .0) (q .1) in
-          let t = g .2 (i .rest) (i .remains) in
-          let f = v .item in
-          let f′ = t .item .0 in
-          let left = subst (λ z. Reads unit d xs z (f .0)) (q .2) (f .1) in
-          record {
-            rest = t .rest;
-            remains = t .remains;
-            goes = λ c n z w. q .3 (c .0) n z (i .goes (j, c .0) n z
-              (subst (λ e. Halts (a-unit e (only j) (c .0)) (i .rest) n z) (sym (c .1)) (t .goes c n z (halts-level (t .item .1) w))));
-            item =
-                (((_, a-join left fit (i .item) (f′ .1), entered-join text (x .value) (y .value) j (w .value) (f .2) gr (f′ .2) e)), t .item .1);
-          })
+        let r = real text (x .end) h k (λ z. no (cc)) in (
+          omega (arith, o .0, r .0, u .0, g .0),
+          g .1,
+          λ xs s.
+              let v = o .2 xs s in
+              let q = joined-halts fit (v .goes) (seen-as text (x .end) h k is (v .rest) (v .remains)) in
+              let i = u .2 (q .0) (q .1) in
+              let t = g .2 (i .rest) (i .remains) in
+              let f = v .item in
+              let f′ = t .item .0 in
+              let left = subst (λ z. Reads unit d xs z (f .0)) (q .2) (f .1) in
+              record {
+                rest = t .rest;
+                remains = t .remains;
+                goes = λ c n z w. q .3 (c .0) n z (i .goes (j, c .0) n z
+                    (subst (λ e. Halts (a-unit e (only j) (c .0)) (i .rest) n z) (sym (c .1)) (t .goes c n z (halts-level (t .item .1) w))));
+                item =
+                    (((_, a-join left fit (i .item) (f′ .1), entered-join text (x .value) (y .value) j (w .value) (f .2) gr (f′ .2) e)), t .item .1);
+              },
+        )
 
 -- a formula around a part is measured one more
 pub within-measured :

@@ -171,8 +171,9 @@ run s (at t p ∷ xs) = run-at p xs (next-of s t) (λ u. run u xs)
 some-verdict : Some-verdict
 some-verdict xs size =
     elim (run start xs) [
-      inl a ↦ inl (sheet-of strict xs a)
-      | inr h ↦ inr (h .0, place-of size (h .1), refused size (h .2)) ]
+      | inl a ↦ inl (sheet-of strict xs a)
+      | inr h ↦ inr (h .0, place-of size (h .1), refused size (h .2))
+    ]
 
 not-both : Not-both
 not-both xs size n p s d (at-token {p =

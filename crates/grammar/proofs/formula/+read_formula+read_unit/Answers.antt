@@ -24,7 +24,7 @@ read-formula-returns-in-rest t c =
       grown = c .read-unit .ensures .grown;
       measured = c .in-Continue-left .ensures tt .measured;
       value = alone-formula (c .args .text .now) (c .args .depth) (c .args .at) (level-of (c .args .level)) (c .in-Continue-left .left) (c .peek-ahead .result)
-        (c .in-Continue-left .ensures tt .value) (c .peek-ahead .ensures) (c .in-rest .not-Join);
+          (c .in-Continue-left .ensures tt .value) (c .peek-ahead .ensures) (c .in-rest .not-Join);
     }
 
 pub read-formula-returns-then-not-fits : need.read-formula-returns-then-not-fits
@@ -33,7 +33,7 @@ read-formula-returns-then-not-fits t c =
       grown = c .read-unit .ensures .grown;
       measured = tt;
       value = mixed-stops (c .args .text .now) (c .args .depth) (c .args .at) (level-of (c .args .level)) (c .in-Continue-left .left) (c .in-Continue-left .ensures tt .value) (c .peek-ahead .result) (c .peek-ahead .ensures) (c .in-Join .join) (c .in-Join .is)
-        (λ e. not-true (c .if-not-fits .ensures tt .1 e));
+          (λ e. not-true (c .if-not-fits .ensures tt .1 e));
     }
 
 pub read-formula-returns-in-Break-weights : need.read-formula-returns-in-Break-weights
@@ -43,7 +43,7 @@ read-formula-returns-in-Break-weights t c =
       grown = c .read-unit .ensures .grown;
       measured = tt;
       value = weights-stop (c .args .text .now) (c .args .depth) (c .args .at) (level-of (c .args .level)) (c .in-Continue-left .left) (c .in-Continue-left .ensures tt .value) (c .peek-ahead .result) (c .peek-ahead .ensures) (c .in-Join .join) (c .in-Join .is) _
-        (c .if-not-fits .ensures tt .0 refl) (c .in-Break-weights .ensures tt);
+          (c .if-not-fits .ensures tt .0 refl) (c .in-Break-weights .ensures tt);
     })
 
 pub read-formula-returns-in-Break-right : need.read-formula-returns-in-Break-right
@@ -53,7 +53,7 @@ read-formula-returns-in-Break-right t c =
       grown = grown-more (c .read-unit .ensures .grown) (c .read-formula .ensures .grown);
       measured = tt;
       value = right-stops (c .args .text .now) (c .args .depth) (c .args .at) (level-of (c .args .level)) (c .in-Continue-left .left) (c .in-Continue-left .ensures tt .value) (c .peek-ahead .result) (c .peek-ahead .ensures) (c .in-Join .join) (c .in-Join .is) (c .in-Continue-weights .weights) _
-        (c .if-not-fits .ensures tt .0 refl) (c .in-Continue-weights .ensures tt) (c .in-Break-right .ensures tt .value);
+          (c .if-not-fits .ensures tt .0 refl) (c .in-Continue-weights .ensures tt) (c .in-Break-right .ensures tt .value);
     })
 
 pub read-formula-returns : need.read-formula-returns
@@ -68,8 +68,8 @@ read-formula-returns t c =
     record {
       grown = grown-more (l .grown) (grown-more (r .grown) (c .push-body .ensures .grown));
       measured = (omega arith, omega (arith, m .1, a .0, w .0, n .1), omega (arith, m .2, n .2));
-      value = join-formula (c .args .text .now) (c .args .depth) (c .args .at) (level-of (c .args .level)) (c .in-Continue-left .left) (c .in-Continue-left .ensures tt .value) (c .peek-ahead .result) (c .peek-ahead .ensures) (c .in-Join .join) (c .in-Join .is) 
-        (c .in-Continue-weights .weights) (c .in-Continue-right .right) (c .if-not-fits .ensures tt .0 refl) w (r .grown) (r .value) (c .push-body .ensures);
+      value = join-formula (c .args .text .now) (c .args .depth) (c .args .at) (level-of (c .args .level)) (c .in-Continue-left .left) (c .in-Continue-left .ensures tt .value) (c .peek-ahead .result) (c .peek-ahead .ensures) (c .in-Join .join) (c .in-Join .is)
+          (c .in-Continue-weights .weights) (c .in-Continue-right .right) (c .if-not-fits .ensures tt .0 refl) w (r .grown) (r .value) (c .push-body .ensures);
     }
 
 pub read-unit-returns-then-depth-eq0 : need.read-unit-returns-then-depth-eq0
@@ -211,5 +211,5 @@ read-unit-returns-in-rest t c =
       grown = grown-none (c .args .table .now);
       measured = tt;
       value = unit-stops (c .args .text .now) (c .args .depth) (c .args .at) (c .args .table .now) (c .args .table .now) (c .peek-ahead .result) (c .peek-ahead .ensures) _ (c .not-permitted .ensures)
-        (c .in-rest .not-Number) (c .in-rest .not-Name) (c .in-rest .not-Not) (c .in-rest .not-Pick) (c .in-rest .not-Opening);
+          (c .in-rest .not-Number) (c .in-rest .not-Name) (c .in-rest .not-Not) (c .in-rest .not-Pick) (c .in-rest .not-Opening);
     }

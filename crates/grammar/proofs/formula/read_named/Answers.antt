@@ -22,7 +22,7 @@ returns-in-Break-left c =
       grown = grown-none (c .args .table .now);
       measured = tt;
       value = sum-stops _ _ (c .peek-ahead .result) (c .peek-ahead .ensures) (c .args .word) (c .args .table .now) (c .args .table .now) _
-        (c .in-rest .not-Opening) (c .in-Break-left .ensures tt);
+          (c .in-rest .not-Opening) (c .in-Break-left .ensures tt);
     })
 
 pub returns : need.returns
@@ -32,5 +32,5 @@ returns c =
       grown = c .read-comparison .ensures .grown;
       measured = measured-from _ _ _ (s .0) (c .read-comparison .ensures .measured);
       value = compared-read _ _ (c .peek-ahead .result) (c .peek-ahead .ensures) (c .args .word) _ _ _ _
-        (c .in-rest .not-Opening) s (c .read-comparison .ensures .value);
+          (c .in-rest .not-Opening) s (c .read-comparison .ensures .value);
     }

@@ -14,7 +14,7 @@ pub returns-in-Break-right : need.returns-in-Break-right
 returns-in-Break-right c =
     let q = err-from-errBy (c .from-residual .result) (c .from-residual .ensures .1) in
     rw (q .1, q .2) (given-stops _ _ (c .peek-first .result) (c .peek-first .ensures) _ (c .in-Number .is)
-      (c .peek-second .result) (c .peek-second .ensures) _ (c .in-Colon .is) (c .in-Break-right .ensures tt))
+    (c .peek-second .result) (c .peek-second .ensures) _ (c .in-Colon .is) (c .in-Break-right .ensures tt))
 
 pub returns : need.returns
 returns c =

@@ -9,8 +9,8 @@ returns-in-Break-end c =
     rw (q .1, q .2) (record {
       entries = refl;
       value = field-stops (c .args .text .now) _ (c .in-Continue-name .name) (c .in-Continue-low .low) (c .in-Continue-high .high)
-      (c .in-Continue-name .ensures tt) (c .in-Continue-low .ensures tt) (c .in-Continue-high .ensures tt)
-      (c .args .first) (c .args .table .now) (c .args .table .now) _ (c .in-Break-end .ensures tt);
+          (c .in-Continue-name .ensures tt) (c .in-Continue-low .ensures tt) (c .in-Continue-high .ensures tt)
+          (c .args .first) (c .args .table .now) (c .args .table .now) _ (c .in-Break-end .ensures tt);
     })
 
 pub returns : need.returns

@@ -11,13 +11,13 @@ pub returns-in-Break-params : need.returns-in-Break-params
 returns-in-Break-params c =
     let q = err-from-errBy (c .from-residual-in-Break-params .result) (c .from-residual-in-Break-params .ensures .1) in
     rw (q .1, q .2) (no-params (c .args .text .now) _ (c .in-Continue-name .name) (c .in-Continue-name .ensures tt)
-      _ (c .in-Continue-opening .ensures tt) _ (c .in-Break-params .ensures tt))
+    _ (c .in-Continue-opening .ensures tt) _ (c .in-Break-params .ensures tt))
 
 pub returns-in-Break-end : need.returns-in-Break-end
 returns-in-Break-end c =
     let q = err-from-errBy (c .from-residual-in-Break-end .result) (c .from-residual-in-Break-end .ensures .1) in
     rw (q .1, q .2) (no-colon (c .args .text .now) _ (c .in-Continue-name .name) (c .in-Continue-name .ensures tt)
-      _ (c .in-Continue-opening .ensures tt) (c .in-Continue-params .params) (c .in-Continue-params .ensures tt) _ (c .in-Break-end .ensures tt))
+    _ (c .in-Continue-opening .ensures tt) (c .in-Continue-params .params) (c .in-Continue-params .ensures tt) _ (c .in-Break-end .ensures tt))
 
 pub returns : need.returns
 returns c =

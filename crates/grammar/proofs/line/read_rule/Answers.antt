@@ -23,5 +23,5 @@ returns c =
     record {
       room = omega (arith, g .room (c .pre), c .keep-rule .ensures .entries);
       value = rule-read (c .args .text .now) _ _ (c .args .table .now) (c .in-Continue-head .head) (c .in-Continue-head .ensures tt)
-        (c .in-Continue-body .body) g (c .in-Continue-body .ensures tt .value) (c .keep-rule .ensures .lines);
+          (c .in-Continue-body .body) g (c .in-Continue-body .ensures tt .value) (c .keep-rule .ensures .lines);
     }

@@ -8,9 +8,10 @@ loop-table-holds c = (refl, fields-none (c .args .text .now) (c .args .at) (c .a
 
 pub loop-table-again : need.loop-table-again
 loop-table-again c =
-    let o = c .in-Continue-from .ensures tt in
-    (o .entries ∙ c .loop-table .inv .0,
-      fields-more (c .args .text .now) (c .args .at) (c .args .table .now) (c .loop-table .table) (c .loop-table .from) (c .peek-ahead .result) (c .peek-ahead .ensures) _ (c .loop-table .inv .1) (c .in-Field .is) (o .value))
+    let o = c .in-Continue-from .ensures tt in (
+      o .entries ∙ c .loop-table .inv .0,
+      fields-more (c .args .text .now) (c .args .at) (c .args .table .now) (c .loop-table .table) (c .loop-table .from) (c .peek-ahead .result) (c .peek-ahead .ensures) _ (c .loop-table .inv .1) (c .in-Field .is) (o .value),
+    )
 
 pub returns-in-rest : need.returns-in-rest
 returns-in-rest c = record {

@@ -20,5 +20,5 @@ returns-in-Break-rules c =
 pub returns : need.returns
 returns c =
     parsed (c .args .text .now) (c .args .table .now) _ _ (c .in-Continue-first .ensures tt .value) _ _ (c .in-Continue-fields .ensures tt .value)
-      _ _ (c .in-Continue-rules .ensures tt .value)
+    _ _ (c .in-Continue-rules .ensures tt .value)
     _ _ (c .read-mark .ensures) (c .pre .entries) (c .pre .over) (c .pre .lines (c .args .text .now))

@@ -21,11 +21,12 @@ returns-then-self-ge16 c =
     record {
       entries = refl;
       lines = λ text fs rs all f h le few body.
-        rule-passes text (c .args .self .now) fs rs (c .args .start) le (c .args .first) (c .args .head) (c .args .part) all f few body none
-        (elim (c .then-self-ge16 .came) [
-          then-self-ge16·by·then-self-ge16 w ↦ inl (w .if-self-ge16 .taken)
-          | then-self-ge16·by·else-self-ge16·then-passes w ↦ inr (w .if-passes .ensures tt .0 refl) ])
-        h;
+          rule-passes text (c .args .self .now) fs rs (c .args .start) le (c .args .first) (c .args .head) (c .args .part) all f few body none
+          (elim (c .then-self-ge16 .came) [
+            | then-self-ge16·by·then-self-ge16 w ↦ inl (w .if-self-ge16 .taken)
+            | then-self-ge16·by·else-self-ge16·then-passes w ↦ inr (w .if-passes .ensures tt .0 refl)
+          ])
+          h;
     }
 
 pub returns : need.returns
@@ -36,6 +37,6 @@ returns c =
     record {
       entries = refl;
       lines = λ text fs rs all f h le few body.
-        rule-stored text (c .args .self .now) fs rs (c .args .start) le (c .args .first) (c .args .head) (c .args .part) all f few body
-        room none (c .if-self-ge16 .left) (λ v. not-true (c .if-passes .ensures tt .1 v)) (within .1) (within .0) h;
+          rule-stored text (c .args .self .now) fs rs (c .args .start) le (c .args .first) (c .args .head) (c .args .part) all f few body
+          room none (c .if-self-ge16 .left) (λ v. not-true (c .if-passes .ensures tt .1 v)) (within .1) (within .0) h;
     }
