@@ -50,7 +50,8 @@ pub record Brackets (listed more one : State → State) : Type 0 where
   pub unfinished : (s : State) → Unfinished (more s)
   -- only a comma or a closing bracket stands after an item
   pub stuck :
-      (text : List ℕ) (k : Class) → (k ≡ class.Comma → ⊥) → (k ≡ class.Closing → ⊥) → (s : State) → Stuck text k (more s)
+      (text : List ℕ) (k : Class) → (k ≡ class.Comma → ⊥) → (k ≡ class.Closing → ⊥) → (s : State) → Stuck text
+          k (more s)
   -- where no closing bracket stands, a list begins with an item
   pub begins :
       (text : List ℕ) (k : Class) (q e : ℕ) (xs : Tokens)
@@ -66,7 +67,8 @@ module _
   -- the list that xs begins with is read up to place q
   abbrev ListCame : Tokens → Few X → ℕ → Type 0
   ListCame xs list q =
-      Came text State listed (λ s. s) xs q (λ us. (all : List X) × Holds4 X list all × Listed A Item xs us (map of all))
+      Came text State listed (λ s. s) xs q (λ us. (all : List X) × Holds4 X list all × Listed A Item xs us
+          (map of all))
 
   -- and so far with one more due
   abbrev Due : Tokens → Few X → ℕ → Type 0
@@ -116,7 +118,8 @@ module _
       all = b .all ++ x ∷ [];
       held = keeps (b .all) (b .held);
       joins =
-          λ r bs k. subst (Parted A Item _ r) (mapped-more of (b .all) x bs) (b .joins r (of x ∷ bs) (next i k));
+          λ r bs k. subst (Parted A Item _ r) (mapped-more of (b .all) x bs)
+              (b .joins r (of x ∷ bs) (next i k));
     }
 
     ended :
@@ -169,8 +172,13 @@ module _
         → Stopped text State listed xs f
     after-item q a f b h k y z e =
         let v = h (b .rest) (b .remains) in
-        let t = stops more f e (k .seen (v .rest) (v .remains)) (moves .unfinished) (moves .stuck text (a .class) y z) in
-        record { rest = t .rest; there = t .there; halts = λ s. b .goes s _ _ (v .goes (more s) _ _ (t .halts s)) }
+        let t = stops more f e (k .seen (v .rest) (v .remains)) (moves .unfinished)
+            (moves .stuck text (a .class) y z) in
+        record {
+          rest = t .rest;
+          there = t .there;
+          halts = λ s. b .goes s _ _ (v .goes (more s) _ _ (t .halts s));
+        }
 
   pub no-item :
       {xs : Tokens} (list : Few X) (p : ℕ) (f : Fault)
@@ -209,21 +217,24 @@ module _
 
   module _
       (p q e : ℕ) (list then : Few X) (x : X) (d : Reading p list q)
-      (o : Outcome text q State one (λ s. s) X (λ v xs us. Item xs us (of v)) (Ok (record { value = x; end = e })))
+      (o : Outcome text q State one (λ s. s) X (λ v xs us. Item xs us (of v))
+          (Ok (record { value = x; end = e })))
       (grows : then .count ≡ list .count + 1)
       (keeps : (all : List X) → Holds4 X list all → Holds4 X then (all ++ x ∷ []))
       (a : Ahead) (k : Peeked text e a) where
     pub reading-again : a .class ≡ class.Comma → Reading p then (a .end)
     reading-again is =
         let r = real text e a k (λ z. no (cc)) in
-        (omega (arith, d .0, o .0, r .0), r .1, λ xs l. due-again list then x q keeps e a (d .2 xs l) (o .2) k is)
+        (omega (arith, d .0, o .0, r .0), r .1, λ xs l. due-again list then x q keeps e a (d .2 xs l) (o .2) k
+            is)
 
     pub list-read :
         a .class ≡ class.Closing
         → ListRead text p X A of Item listed (Ok (record { value = then; end = a .end }))
     list-read is =
         let r = real text e a k (λ z. no (cc)) in
-        (omega (arith, d .0, o .0, r .0), r .1, λ xs l. list-came list then x q keeps e a (d .2 xs l) (o .2) k is)
+        (omega (arith, d .0, o .0, r .0), r .1, λ xs l. list-came list then x q keeps e a (d .2 xs l) (o .2) k
+            is)
 
     pub list-stops :
         (f : Fault)

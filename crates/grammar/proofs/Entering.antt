@@ -22,7 +22,14 @@ use Rattle.grammar.specs.Parsing.{Holds4, Grown, Pushed, Entered}
 
 pub grown-none : (t : Table) → Grown t t
 grown-none t =
-    record { fields = (refl, refl); rules = (refl, refl); others = (refl, refl); grows = omega arith; room = λ h. h; same = λ k lt. refl }
+    record {
+      fields = (refl, refl);
+      rules = (refl, refl);
+      others = (refl, refl);
+      grows = omega arith;
+      room = λ h. h;
+      same = λ k lt. refl;
+    }
 
 pub grown-more : {a b c : Table} → Grown a b → Grown b c → Grown a c
 grown-more g h = record {
@@ -56,7 +63,8 @@ entries-same h (a-pick {i =
     i} n v e a) = a-pick (h i (omega arith) ∙ n) v e (entries-same (λ k le. h k (omega arith)) a)
 entries-same h (a-join {a = a} {b = b} {i = i} n v e x y) =
     let le = starts y in
-    a-join (h i (omega arith) ∙ n) v e (entries-same (λ k l. h k (omega arith)) x) (entries-same (λ k l. h k (omega arith)) y)
+    a-join (h i (omega arith) ∙ n) v e (entries-same (λ k l. h k (omega arith)) x)
+        (entries-same (λ k l. h k (omega arith)) y)
 
 -- entries below those in use stay
 kept :
@@ -71,21 +79,24 @@ module _ (text : List ℕ) {b a : Table} where
   pub entered-comparison :
       {i : ℕ} (c : Comparison) (t u : TermEntry)
       → Pushed b a (Compared c t u) i
-      → Entered text b a (record { body = i; size = 1; joins = 0 }) (compared c (term-of text t) (term-of text u))
+      → Entered text b a (record { body = i; size = 1; joins = 0 })
+          (compared c (term-of text t) (term-of text u))
   entered-comparison {i} c t u p = record {
     sized = refl;
     joined = refl;
     held = λ h.
         let q = p .there (omega arith) in
         let f = compared c (term-of text t) (term-of text u) in
-        (subst (λ s. Entries text (a .nodes) s i f) (q .0) (a-comparison (q .2) refl refl), q .1, omega (arith, q .0, q .1));
+        (subst (λ s. Entries text (a .nodes) s i f) (q .0) (a-comparison (q .2) refl refl), q .1, omega
+            (arith, q .0, q .1));
   }
 
   pub entered-call :
       {i : ℕ} (v : WordEntry) (list : Few TermEntry) (all : List TermEntry)
       → Holds4 TermEntry list all
       → Pushed b a (Called v (list .count) (list .items)) i
-      → Entered text b a (record { body = i; size = 1; joins = 0 }) (called (word-of text v) (map (term-of text) all))
+      → Entered text b a (record { body = i; size = 1; joins = 0 })
+          (called (word-of text v) (map (term-of text) all))
   entered-call {i} v list all h p = record {
     sized = refl;
     joined = refl;
@@ -94,7 +105,8 @@ module _ (text : List ℕ) {b a : Table} where
         let f = called (word-of text v) (map (term-of text) all) in
         let n = h .counts ∙ sym (length-map all (term-of text)) in
         let ts = ap (map (term-of text)) (h .holds) ∙ sym (take-map (term-of text) 4 all) in
-        (subst (λ s. Entries text (a .nodes) s i f) (q .0) (a-call (q .2) refl n ts), q .1, omega (arith, q .0, q .1));
+        (subst (λ s. Entries text (a .nodes) s i f) (q .0) (a-call (q .2) refl n ts), q .1, omega
+            (arith, q .0, q .1));
   }
 
 -- a whole after its part
@@ -118,7 +130,8 @@ module _
   pub entered-pick :
       (v : WordEntry)
       → Pushed m a (Picked v (part .body)) i
-      → Entered text b a (record { body = i; size = part .size + 1; joins = part .joins }) (picked (word-of text v) f)
+      → Entered text b a (record { body = i; size = part .size + 1; joins = part .joins })
+          (picked (word-of text v) f)
   entered-pick v p = record {
     sized = omega (arith, h .sized);
     joined = h .joined;
@@ -151,7 +164,8 @@ entered-join text {b} {m} {n} {a} {i} left right {f} {g} j w x h y p = record {
       let e : m .«node_count» ≡ suc (left .body) = omega (arith, k .2) in (
         a-join (q .2) refl (omega (arith, q .0, l .2))
             (kept (grown-more h (p .grown)) (omega (arith, k .2)) (k .0))
-            (subst (λ s. Entries text (a .nodes) s (right .body) g) e (kept (p .grown) (omega (arith, l .2)) (l .0))),
+            (subst (λ s. Entries text (a .nodes) s (right .body) g) e
+                (kept (p .grown) (omega (arith, l .2)) (l .0))),
         omega (arith, q .1, k .1, l .1),
         omega (arith, q .0, q .1),
       );

@@ -62,7 +62,8 @@ pub comparison-read :
     → SignRead text p (Ok c)
     → TermRead text (c .end) (Ok u)
     → Pushed b a (node.Compared (c .value) t (u .value)) i
-    → ComparisonRead text p t b a (Ok (record { value = record { body = i; size = 1; joins = 0 }; end = u .end }))
+    → ComparisonRead text p t b a (Ok (record
+        { value = record { body = i; size = 1; joins = 0 }; end = u .end }))
 comparison-read text p t i c u h k e = (
   omega (arith, h .0, k .0),
   k .1,
@@ -74,7 +75,8 @@ comparison-read text p t i c u h k e = (
         remains = w .remains;
         goes = λ o n r z. v .goes (term (more (o .0) (o .1))) n r (w .goes (more (o .0) (o .1)) n r z);
         item =
-            λ d zs x. (_, compared-item (v .item) x (w .item), entered-comparison text (c .value) t (u .value) e);
+            λ d zs x. (_, compared-item (v .item) x (w .item), entered-comparison text (c .value) t (u .value)
+                e);
       },
 )
 
@@ -101,7 +103,8 @@ call-read text p v i list h e = (
         remains = m .remains;
         goes = λ o n r z. m .goes (more (o .0) (o .1)) n r z;
         item =
-            λ d w j q g. (_, call-item (m .item .2) g, entered-call text v (list .value) (m .item .0) (m .item .1) e);
+            λ d w j q g. (_, call-item (m .item .2) g, entered-call text v (list .value) (m .item .0)
+                (m .item .1) e);
       },
 )
 
@@ -132,10 +135,17 @@ module _ (text : List ℕ) (p : ℕ) (h : Ahead) (k : Peeked text p h) (v : Word
       (x : Read Part) {q e : ℕ} {xs : Tokens}
       → CallRead text e v b a (Ok x)
       → Seen text xs class.Opening q e
-      → Came text Around (λ c. named (c .0) (c .1)) (λ c. more (c .0) (c .1)) xs (x .end) (λ us. (d : ℕ) (w : List ℕ) (i : ℕ) → word-of text v ≡ word w i → FormulaIs text unit d b a (x .value) (at (name w) i ∷ xs) us)
+      → Came text Around (λ c. named (c .0) (c .1)) (λ c. more (c .0) (c .1)) xs (x .end)
+          (λ us. (d : ℕ) (w : List ℕ) (i : ℕ) → word-of text v ≡ word w i → FormulaIs text unit d b a
+          (x .value) (at (name w) i ∷ xs) us)
   called-came x o (a-token {p = q} {xs = us} says-opening l) =
       let m = o .2 us l in
-      record { rest = m .rest; remains = m .remains; goes = λ c n r z. goes-on unit-call tt (m .goes c n r z); item = λ d w i g. m .item d w i q g }
+      record {
+        rest = m .rest;
+        remains = m .remains;
+        goes = λ c n r z. goes-on unit-call tt (m .goes c n r z);
+        item = λ d w i g. m .item d w i q g;
+      }
 
   called-stopped :
       {f : Fault} {q e : ℕ} {xs : Tokens}
@@ -143,7 +153,12 @@ module _ (text : List ℕ) (p : ℕ) (h : Ahead) (k : Peeked text p h) (v : Word
       → Seen text xs class.Opening q e
       → Stopped text Around (λ c. named (c .0) (c .1)) xs f
   called-stopped o (a-token {xs = us} says-opening l) =
-      let m = o us l in record { rest = m .rest; there = m .there; halts = λ c. goes-on unit-call tt (m .halts c) }
+      let m = o us l in
+      record {
+        rest = m .rest;
+        there = m .there;
+        halts = λ c. goes-on unit-call tt (m .halts c);
+      }
 
   pub called-read :
       (r : Result (Read Part) Fault)
@@ -171,14 +186,19 @@ module _ (text : List ℕ) (p : ℕ) (h : Ahead) (k : Peeked text p h) (v : Word
           rest = w .rest;
           remains = w .remains;
           goes =
-              λ c n r y. halts-named z (k .seen xs l) (m .goes (compared-with (c .0) (c .1)) n r (w .goes c n r y));
+              λ c n r y. halts-named z (k .seen xs l) (m .goes (compared-with (c .0) (c .1)) n r
+                  (w .goes c n r y));
           item = λ d u i g. w .item d _ (m .item u i g);
         },
   )
   compared-read t (Err f) z s o = λ xs l.
       let m = s .2 xs l in
       let w = o (m .rest) (m .remains) in
-      record { rest = w .rest; there = w .there; halts = λ c. halts-named z (k .seen xs l) (m .goes (compared-with (c .0) (c .1)) _ _ (w .halts c)) }
+      record {
+        rest = w .rest;
+        there = w .there;
+        halts = λ c. halts-named z (k .seen xs l) (m .goes (compared-with (c .0) (c .1)) _ _ (w .halts c));
+      }
 
   pub sum-stops :
       (f : Fault)
@@ -187,7 +207,11 @@ module _ (text : List ℕ) (p : ℕ) (h : Ahead) (k : Peeked text p h) (v : Word
       → NamedRead text p v b a (Err f)
   sum-stops f z s xs l =
       let m = s xs l in
-      record { rest = m .rest; there = m .there; halts = λ c. halts-named z (k .seen xs l) (m .halts (compared-with (c .0) (c .1))) }
+      record {
+        rest = m .rest;
+        there = m .there;
+        halts = λ c. halts-named z (k .seen xs l) (m .halts (compared-with (c .0) (c .1)));
+      }
 
 -- Weights
 
@@ -300,8 +324,10 @@ module _ (text : List ℕ) (p : ℕ) (h : Ahead) (k : Peeked text p h) where
         (x : Read NumberEntry) {i q e : ℕ} {us : Tokens}
         → NumberRead text e (Ok x)
         → Seen text us class.Colon q e
-        → Came text (Join × Open) (λ c. after-join (c .0) (c .1)) (λ c. a-unit (allowance (c .1)) (only (c .0)) (c .1))
-        (at (number m) i ∷ us) (x .end) (λ r. IsWeights (at (number m) i ∷ us) r (given (num m i) (number-of (x .value))))
+        → Came text (Join × Open) (λ c. after-join (c .0) (c .1))
+            (λ c. a-unit (allowance (c .1)) (only (c .0)) (c .1))
+        (at (number m) i ∷ us) (x .end) (λ r. IsWeights (at (number m) i ∷ us) r
+            (given (num m i) (number-of (x .value))))
     given-came x o (a-token {xs = zs} says-colon l) =
         let v = o .2 zs l in
         record {
@@ -318,14 +344,19 @@ module _ (text : List ℕ) (p : ℕ) (h : Ahead) (k : Peeked text p h) where
         → Stopped text (Join × Open) (λ c. after-join (c .0) (c .1)) (at (number m) i ∷ us) f
     given-stopped o (a-token {xs = zs} says-colon l) =
         let v = o zs l in
-        record { rest = v .rest; there = v .there; halts = λ c. goes-on join-number tt (goes-on weight-colon tt (v .halts _)) }
+        record {
+          rest = v .rest;
+          there = v .there;
+          halts = λ c. goes-on join-number tt (goes-on weight-colon tt (v .halts _));
+        }
 
     both-came :
         (x : Read NumberEntry) {q : ℕ} {xs : Tokens}
         → g .class ≡ class.Colon
         → NumberRead text (g .end) (Ok x)
         → Seen text xs (class.Number m) q (h .end)
-        → Came text (Join × Open) (λ c. after-join (c .0) (c .1)) (λ c. a-unit (allowance (c .1)) (only (c .0)) (c .1))
+        → Came text (Join × Open) (λ c. after-join (c .0) (c .1))
+            (λ c. a-unit (allowance (c .1)) (only (c .0)) (c .1))
         xs (x .end) (λ r. IsWeights xs r (given (num m q) (number-of (x .value))))
     both-came x colon-is o (a-token {xs =
         us} says-number l) = given-came x o (seen-as text (h .end) g u colon-is us l)
@@ -343,7 +374,8 @@ module _ (text : List ℕ) (p : ℕ) (h : Ahead) (k : Peeked text p h) where
         (x : Read NumberEntry)
         → g .class ≡ class.Colon
         → NumberRead text (g .end) (Ok x)
-        → WeightsRead text p (Ok (record { value = weights.Given (record { value = m; place = h .place }) (x .value); end = x .end }))
+        → WeightsRead text p (Ok (record { value = weights.Given (record { value = m; place = h .place })
+            (x .value); end = x .end }))
     given-read x colon-is o =
         let r = real text p h k (λ e. no (cc)) in
         let s = real text (h .end) g u (λ e. no (cc)) in

@@ -91,9 +91,11 @@ module _ (text : List ℕ) where
       → LinesKept text a fs rs (b .«node_count»)
   lines-grown g (all-kept o h) = all-kept (g .others .1 ∙ o) (above-same (g .fields) (g .rules) (g .same) h)
   lines-grown g (field-over w lo hi below o h le n e) =
-      field-over w lo hi below (g .others .1 ∙ o) (above-same (g .fields) (g .rules) (λ k lt. g .same k (omega arith)) h) le n e
+      field-over w lo hi below (g .others .1 ∙ o)
+          (above-same (g .fields) (g .rules) (λ k lt. g .same k (omega arith)) h) le n e
   lines-grown g (rule-over w below o h le v e) =
-      rule-over w below (g .others .1 ∙ o) (above-same (g .fields) (g .rules) (λ k lt. g .same k (omega arith)) h) le v e
+      rule-over w below (g .others .1 ∙ o) (above-same (g .fields) (g .rules)
+          (λ k lt. g .same k (omega arith)) h) le v e
 
   -- Field lines
 
@@ -108,7 +110,8 @@ module _ (text : List ℕ) where
       → Lines text b (fs ++ f ∷ []) []
   field-skipped f s (all-kept o h) = absurd (none-some o s)
   field-skipped f s (field-over {gs = gs} {p = p} w lo hi below o h le n e) =
-      field-over w lo hi (below ++ f ∷ []) o h le n (ap (λ l. l ++ f ∷ []) e ∙ append-assoc gs (field-line p w lo hi ∷ below) (f ∷ []))
+      field-over w lo hi (below ++ f ∷ []) o h le n
+          (ap (λ l. l ++ f ∷ []) e ∙ append-assoc gs (field-line p w lo hi ∷ below) (f ∷ []))
   field-skipped f s (rule-over w below o h le v e) = absurd (no-rule _ _ _ e)
 
   -- the table with the place of a line that passes a limit
@@ -137,7 +140,8 @@ module _ (text : List ℕ) where
       → Lines text b fs []
       → Lines text (over-at b (line .first)) (fs ++ field-of text line ∷ []) []
   field-passes b fs line s le (all-kept o h) =
-      field-over (word-of text (line .name)) (number-of (line .low)) (number-of (line .high)) [] refl (over-above h)
+      field-over (word-of text (line .name)) (number-of (line .low)) (number-of (line .high)) [] refl
+          (over-above h)
       (omega arith) (omega (arith, h .field-count, h .few-fields)) refl
   field-passes b fs line s le (field-over w lo hi below o h d n e) = absurd (some-none o s)
   field-passes b fs line s le (rule-over w below o h d v e) = absurd (some-none o s)
@@ -220,9 +224,11 @@ module _ (text : List ℕ) where
           isSome (b .over) ≡ false
           → (16 ≤ b .«rule_count») ⊎ Passing s (head .params .count) part
           → LinesKept text b fs rs s
-          → Lines text (over-at b first) fs (rs ++ rule-line first (word-of text (head .name)) (map (word-of text) all) f ∷ [])
+          → Lines text (over-at b first) fs (rs ++ rule-line first (word-of text (head .name))
+              (map (word-of text) all) f ∷ [])
       rule-passes is (inl n) (all-kept o h) =
-          rule-over (word-of text (head .name)) [] refl (over-above h) le (inl (omega (arith, h .rule-count))) refl
+          rule-over (word-of text (head .name)) [] refl (over-above h) le (inl (omega (arith, h .rule-count)))
+              refl
       rule-passes is (inr v) (all-kept o h) =
           rule-over (word-of text (head .name)) [] refl (over-above h) le (inr (passing v)) refl
       rule-passes is v (field-over w lo hi below o h d n e) = absurd (some-none o is)
@@ -273,11 +279,14 @@ module _ (text : List ℕ) where
             rule-count = omega (arith, h .rule-count);
             few-rules = omega (arith, h .rule-count);
             rules-held =
-                subst (λ q. Rules text (b .nodes) 0 q (rs ++ rule-line first (word-of text (head .name)) (map (word-of text) all) f ∷ []) (b .«node_count»))
+                subst (λ q. Rules text (b .nodes) 0 q (rs ++ rule-line first (word-of text (head .name))
+                    (map (word-of text) all) f ∷ []) (b .«node_count»))
                 (sym (take-more-set (b .rules) (b .«rule_count») line (omega arith)))
                 (rules-more (h .rules-held)
-                (subst (Rules text (b .nodes) s (line ∷ []) (rule-line first (word-of text (head .name)) (map (word-of text) all) f ∷ [])) e
-                (a-rule refl refl (c ∙ sym l) (ap (map (word-of text)) (few .holds ∙ take-all 4 all small)) refl (k .0) (λ v. z (passed v)) no-rules)));
+                (subst (Rules text (b .nodes) s (line ∷ [])
+                    (rule-line first (word-of text (head .name)) (map (word-of text) all) f ∷ [])) e
+                (a-rule refl refl (c ∙ sym l) (ap (map (word-of text)) (few .holds ∙ take-all 4 all small))
+                    refl (k .0) (λ v. z (passed v)) no-rules)));
           })
       rule-stored room is lt z x y (field-over w lo hi below o h d n e) = absurd (some-none o is)
       rule-stored room is lt z x y (rule-over w below o h d u e) = absurd (some-none o is)
@@ -333,6 +342,7 @@ module _ (text : List ℕ) where
         }) (sheet fs rs (mark-line first f))
     mark-stored is z fits (all-kept o h) =
         let k = body .held (omega (arith, body .sized)) in
-        tables.whole o (above-same (refl, refl) (refl, refl) (λ i lt. refl) h) refl refl (k .0) (λ v. z (mark-passed v))
+        tables.whole o (above-same (refl, refl) (refl, refl) (λ i lt. refl) h) refl refl (k .0)
+            (λ v. z (mark-passed v))
     mark-stored is z fits (field-over w lo hi below o h d n e) = absurd (some-none o is)
     mark-stored is z fits (rule-over w below o h d u e) = absurd (some-none o is)

@@ -68,7 +68,11 @@ expected-stops :
     → Stopped text State (expects k) xs f
 expected-stops {k = k} {f = f} h xs l =
     let y = h xs l in
-    record { rest = xs; there = y .1; halts = λ s. subst (λ n. Halts (expects k s) xs n xs) (sym (y .0)) (not-expected xs (y .2)) }
+    record {
+      rest = xs;
+      there = y .1;
+      halts = λ s. subst (λ n. Halts (expects k s) xs n xs) (sym (y .0)) (not-expected xs (y .2));
+    }
 
 -- The head of a rule
 
@@ -87,7 +91,11 @@ module _ (text : List ℕ) (p : ℕ) (w : Read WordEntry) (h : NameRead text p (
   no-opening f e xs l =
       let v = h .2 xs l in
       let s = expected-stops e (v .rest) (v .remains) in
-      record { rest = s .rest; there = s .there; halts = λ _. v .goes (expects opening-sign (names rule-body)) _ _ (s .halts (names rule-body)) }
+      record {
+        rest = s .rest;
+        there = s .there;
+        halts = λ _. v .goes (expects opening-sign (names rule-body)) _ _ (s .halts (names rule-body));
+      }
 
   module _ (o : ℕ) (g : Expected text (w .end) opening-sign (Ok o)) where
     pub no-params : (f : Fault) → NamesRead text o (Err f) → HeadRead text p (Err f)
@@ -99,7 +107,8 @@ module _ (text : List ℕ) (p : ℕ) (w : Read WordEntry) (h : NameRead text p (
           rest = s .rest;
           there = s .there;
           halts =
-              λ _. v .goes (expects opening-sign (names rule-body)) _ _ (first-goes (y .1) (s .halts rule-body));
+              λ _. v .goes (expects opening-sign (names rule-body)) _ _
+                  (first-goes (y .1) (s .halts rule-body));
         }
 
     module _ (ps : Read (Few WordEntry)) (u : NamesRead text o (Ok ps)) where
@@ -190,7 +199,8 @@ module _ (text : List ℕ) (p : ℕ) (b a : Table) where
           rest = v .rest;
           there = y .1;
           halts = λ n. v .goes (whole n, refl) _ _
-              (subst (λ k. Halts (more any (whole n)) (v .rest) k (v .rest)) (sym (y .0)) (not-ended n (v .rest) (v .item .1) (y .2)));
+              (subst (λ k. Halts (more any (whole n)) (v .rest) k (v .rest)) (sym (y .0))
+                  (not-ended n (v .rest) (v .item .1) (y .2)));
         }
 
     pub body-read :
@@ -259,7 +269,8 @@ module _
           rest = z .0;
           remains = z .2;
           goes =
-              λ _ n r u. v .goes _ n r (x .goes _ n r (y .goes (expects semicolon-sign fields) n r (first-goes (z .1) u)));
+              λ _ n r u. v .goes _ n r (x .goes _ n r (y .goes (expects semicolon-sign fields) n r
+                  (first-goes (z .1) u)));
           item = (_, field-item (v .item) (x .item) (y .item) (z .1), λ fs u. kept text fs u);
         },
   )
@@ -386,7 +397,12 @@ module _ (text : List ℕ) (p : ℕ) (b : Table) (h : Ahead) (k : Peeked text p 
         → Seen text xs class.Mark q e
         → Stopped text (Unit {0}) (λ _. rules) xs f
     mark-body-stopped f o (a-token {xs = us} says-mark l) =
-        let s = o us l in record { rest = s .rest; there = s .there; halts = λ _. goes-on line-mark tt (s .halts of-mark) }
+        let s = o us l in
+        record {
+          rest = s .rest;
+          there = s .there;
+          halts = λ _. goes-on line-mark tt (s .halts of-mark);
+        }
 
     pub mark-body-stops : (f : Fault) → BodyRead text (h .end) b b (Err f) → MarkRead text p b b (Err f)
     mark-body-stops f o xs l y = mark-body-stopped f o (seen-as text p h k is xs l)

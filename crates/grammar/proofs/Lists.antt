@@ -53,7 +53,8 @@ pub kept-more :
     → Holds4 X list all
     → Holds4 X (record { items = now .items; count = now .count + 1 }) (all ++ x ∷ [])
 kept-more X list now x lt e all h =
-    subst (λ l. Holds4 X (record { items = l .items; count = l .count + 1 }) (all ++ x ∷ [])) (sym e) (kept X list x all h lt)
+    subst (λ l. Holds4 X (record { items = l .items; count = l .count + 1 }) (all ++ x ∷ [])) (sym e)
+        (kept X list x all h lt)
 
 pub counted-more :
     (X : Type 0) (list now : Few X) (x : X)
@@ -63,4 +64,5 @@ pub counted-more :
     → Holds4 X list all
     → Holds4 X (record { items = now .items; count = now .count + 1 }) (all ++ x ∷ [])
 counted-more X list now x le e all h =
-    subst (λ l. Holds4 X (record { items = l .items; count = l .count + 1 }) (all ++ x ∷ [])) (sym e) (counted X list x all h le)
+    subst (λ l. Holds4 X (record { items = l .items; count = l .count + 1 }) (all ++ x ∷ [])) (sym e)
+        (counted X list x all h le)

@@ -33,7 +33,8 @@ end-of (inner d l o) = closing
 -- a formula at level l and the token that ends it, and then what P says
 abbrev Ended : Limits → Level → Open → (Tokens → Type 0) → Tokens → Type 0
 Ended L l o P xs =
-    (p : ℕ) × (r : Tokens) × (f : Formula) × ReadsBy L (formula l) (allowance o) xs (at (end-of o) p ∷ r) f × P r
+    (p : ℕ) × (r : Tokens) × (f : Formula) × ReadsBy L (formula l) (allowance o) xs (at (end-of o) p ∷ r) f ×
+        P r
 
 -- xs stands after a unit: whatever unit stands before, there is such a formula
 abbrev Follows : Limits → Level → Open → (Tokens → Type 0) → Tokens → Type 0
@@ -61,7 +62,8 @@ Means L (more-terms s) xs =
     (zs : Tokens) (t : Term) → IsTerm zs xs t → Then (List Term) (Parted Term IsTerm) (Means L s) zs
 Means L (a-unit d l o) xs = Then Formula (ReadsBy L unit d) (Follows L l o (After L o)) xs
 Means L (named l o) xs =
-    (d : ℕ) (w : List ℕ) (p : ℕ) → Then Formula (ReadsBy L unit d) (Follows L l o (After L o)) (at (name w) p ∷ xs)
+    (d : ℕ) (w : List ℕ) (p : ℕ) → Then Formula (ReadsBy L unit d) (Follows L l o (After L o))
+        (at (name w) p ∷ xs)
 Means L (more l o) xs = Follows L l o (After L o) xs
 Means L (after-join j o) xs = Then Weights IsWeights (Ended L (only j) o (After L o)) xs
 Means L (numbered j o) xs =
@@ -104,7 +106,8 @@ module _ (L : Limits) where
       → Means L u xs
       → Means L s (at t p ∷ xs)
   means-before p xs (asked i) h m = and-then i m
-  means-before p _ line-field h (and-then is-name (and-then is-number (and-then is-number (and-then is-semicolon m)))) =
+  means-before p _ line-field h (and-then is-name
+      (and-then is-number (and-then is-number (and-then is-semicolon m)))) =
       (m .0, _, line a-field (m .2), m .3)
   means-before p xs (no-field k) h m = (_, [], done, means-before p xs k h m)
   means-before p xs line-rule h m = rule-of p xs m
@@ -156,7 +159,8 @@ module _ (L : Limits) where
 
   -- what is taken to its end is a sheet
   sheet-from : (xs : Tokens) → Means L start xs → (s : Sheet) × SheetBy L xs s
-  sheet-from _ (and-then is-field (and-then is-name (and-then is-number (and-then is-number (and-then is-semicolon m))))) =
+  sheet-from _ (and-then is-field (and-then is-name
+      (and-then is-number (and-then is-number (and-then is-semicolon m))))) =
       let v = m .3 in (_, a-sheet a-field (m .2) (v .2) (v .3 .1))
 
   pub sheet-of : (xs : Tokens) → Accepts L start xs → (s : Sheet) × SheetBy L xs s

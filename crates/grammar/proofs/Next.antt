@@ -518,7 +518,8 @@ next-of (terms s) t = terms-of s t
 next-of (more-terms s) t = more-terms-of s t
 next-of (a-unit d l o) t = unit-of d l o t
 next-of (named l o) t =
-    named-of l o (is-of opening-sign t) (summed-of (compared-with l o) (sum-of t) (asked-of (term (more l o)) (is-of some-sign t)))
+    named-of l o (is-of opening-sign t) (summed-of (compared-with l o) (sum-of t)
+        (asked-of (term (more l o)) (is-of some-sign t)))
 next-of (more l o) t = more-of l o t
 next-of (after-join j o) t = join-of j o (unit-of (allowance o) (only j) o t)
 next-of (numbered j o) t = numbered-of j o t

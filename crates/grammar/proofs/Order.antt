@@ -123,7 +123,8 @@ mark-sub {f = f} (a-mark {ys = ys} a) =
 
 sheet-sub : {xs : Tokens} {s : Sheet} → IsSheet xs s → Sub (sheet-places s) (token-places xs)
 sheet-sub (a-sheet {m =
-    mark-line p f} a-field fs rs m) = keep (keep (keep (skip (skip (fields-sub fs (rules-sub _ rs (mark-sub m)))))))
+    mark-line p f} a-field fs rs m) = keep (keep
+        (keep (skip (skip (fields-sub fs (rules-sub _ rs (mark-sub m)))))))
 
 pub in-order : {xs : Tokens} {s : Sheet} → IsSheet xs s → Rising (token-places xs) → Rising (sheet-places s)
 in-order d h = rising-sub (sheet-sub d) h

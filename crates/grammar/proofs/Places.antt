@@ -47,7 +47,8 @@ spelling-some (a-sign {s} e) = let n = ap length e in omega (arith, sign-some s)
 pub rises :
     {p : ℕ} {bytes rest : List ℕ} {ts : List TokAt}
     → Cut p bytes ts rest
-    → ((k : ℕ) → k < p → BeforeAll k (token-places (tokens.tokens ts))) × Rising (token-places (tokens.tokens ts))
+    → ((k : ℕ) → k < p → BeforeAll k (token-places (tokens.tokens ts))) × Rising
+        (token-places (tokens.tokens ts))
 rises stop = (λ k lt. tt, tt)
 rises (gap h c) = let r = rises c in (λ k lt. r .0 k (omega arith), r .1)
 rises (token t h c) =
@@ -59,7 +60,8 @@ rises (token t h c) =
 
 no-word :
     (w : List ℕ) (n : ℕ) (a b c d e f g : Bool)
-    → cond a field (cond b rule (cond c mark (cond d (join And) (cond e (join Or) (cond f not (cond g pick (name w))))))) ≡ number n
+    → cond a field (cond b rule (cond c mark
+        (cond d (join And) (cond e (join Or) (cond f not (cond g pick (name w))))))) ≡ number n
     → ⊥
 no-word w n true b c d e f g h = no (cc)
 no-word w n false true c d e f g h = no (cc)
@@ -83,7 +85,8 @@ no-sign (Compare c) n h = no (cc)
 small-token : (t : signs.Tok) (w : List ℕ) (n : ℕ) → Within t w → tokens.token t ≡ number n → n ≤ 1023
 small-token (signs.word u) w n h e =
     absurd (no-word u n
-    (sameBytes u (codes "field")) (sameBytes u (codes "rule")) (sameBytes u (codes "mark")) (sameBytes u (codes "and"))
+    (sameBytes u (codes "field")) (sameBytes u (codes "rule")) (sameBytes u (codes "mark"))
+        (sameBytes u (codes "and"))
     (sameBytes u (codes "or")) (sameBytes u (codes "not")) (sameBytes u (codes "pick")) e)
 small-token (signs.number m) w n h e = let f : m ≡ n = cc in omega (arith, h .1)
 small-token (signs.sign s) w n h e = absurd (no-sign s n e)

@@ -51,7 +51,12 @@ first-came :
     (f : Field) × IsField xs us f × ((fs : List Field) → Lines text b fs [] → Lines text a (fs ++ f ∷ []) []))
 first-came h (a-token {xs = us} says-field l) =
     let v = h .2 us l in
-    record { rest = v .rest; remains = v .remains; goes = λ _ n r k. goes-on (asked is-field) tt (v .goes tt n r k); item = v .item }
+    record {
+      rest = v .rest;
+      remains = v .remains;
+      goes = λ _ n r k. goes-on (asked is-field) tt (v .goes tt n r k);
+      item = v .item;
+    }
 
 first-stopped :
     {text : List ℕ} (b a : Table) {i e : ℕ} {xs : Tokens} {f : Fault}
@@ -59,7 +64,12 @@ first-stopped :
     → Seen text xs class.Field i e
     → Stopped text (Unit {0}) (λ _. start) xs f
 first-stopped b a h (a-token {xs = us} says-field l) =
-    let s = h us l in record { rest = s .rest; there = s .there; halts = λ _. goes-on (asked is-field) tt (s .halts tt) }
+    let s = h us l in
+    record {
+      rest = s .rest;
+      there = s .there;
+      halts = λ _. goes-on (asked is-field) tt (s .halts tt);
+    }
 
 no-first :
     {text : List ℕ} {k : Class} {s u : State} {t : Tok} {i : ℕ} {n : Need}
@@ -149,7 +159,8 @@ module _ (text : List ℕ) (p : ℕ) (b : Table) where
         → FieldRead text e i t a (Ok g)
         → Seen text us class.Field i e
         → Came text (Unit {0}) (λ _. fields) (λ _. fields) xs g (λ us.
-        (fs : List Field) × Many Field IsField xs us fs × ((gs : List Field) → Lines text b gs [] → Lines text a (gs ++ fs) []))
+        (fs : List Field) × Many Field IsField xs us fs ×
+            ((gs : List Field) → Lines text b gs [] → Lines text a (gs ++ fs) []))
     field-more {a} {fs = fs} go m keep o (a-token {xs = zs} says-field l) =
         let v = o .2 zs l in
         let f = v .item in
@@ -178,12 +189,14 @@ module _ (text : List ℕ) (p : ℕ) (b : Table) where
           λ xs l.
               let v = s .2 xs l in
               let f = v .item in
-              field-more (λ n r z. v .goes tt n r z) (f .1) (f .2) o (seen-as text q h k is (v .rest) (v .remains)),
+              field-more (λ n r z. v .goes tt n r z) (f .1) (f .2) o
+                  (seen-as text q h k is (v .rest) (v .remains)),
         )
 
     pub fields-end : FieldsSoFar text p b t q → (h .class ≡ class.Field → ⊥) → FieldsRead text p b t (Ok q)
     fields-end s z =
-        (s, λ xs l i ys e. not-begun z (subst (λ v. Seen text v (h .class) (h .place) (h .end)) e (k .seen xs l)))
+        (s, λ xs l i ys e. not-begun z (subst (λ v. Seen text v (h .class) (h .place) (h .end)) e
+            (k .seen xs l)))
 
     field-stop :
         {i e : ℕ} {xs us : Tokens} {f : Fault}
@@ -192,7 +205,12 @@ module _ (text : List ℕ) (p : ℕ) (b : Table) where
         → Seen text us class.Field i e
         → Stopped text (Unit {0}) (λ _. fields) xs f
     field-stop go o (a-token {xs = zs} says-field l) =
-        let s = o zs l in record { rest = s .rest; there = s .there; halts = λ _. go _ _ (goes-on line-field tt (s .halts tt)) }
+        let s = o zs l in
+        record {
+          rest = s .rest;
+          there = s .there;
+          halts = λ _. go _ _ (goes-on line-field tt (s .halts tt));
+        }
 
     pub fields-stop :
         (f : Fault)
@@ -225,7 +243,8 @@ module _ (text : List ℕ) (p : ℕ) (b : Table) where
             rs ++ f .0 ∷ [],
             many-more m (f .1),
             λ fs ps z.
-                subst (λ y. Lines text a fs y) (append-assoc ps rs (f .0 ∷ [])) (f .2 fs (ps ++ rs) (keep fs ps z)),
+                subst (λ y. Lines text a fs y) (append-assoc ps rs (f .0 ∷ []))
+                    (f .2 fs (ps ++ rs) (keep fs ps z)),
           );
         }
 
@@ -242,12 +261,14 @@ module _ (text : List ℕ) (p : ℕ) (b : Table) where
           λ xs l.
               let v = s .2 xs l in
               let f = v .item in
-              rule-more (λ n r z. v .goes tt n r z) (f .1) (f .2) o (seen-as text q h k is (v .rest) (v .remains)),
+              rule-more (λ n r z. v .goes tt n r z) (f .1) (f .2) o
+                  (seen-as text q h k is (v .rest) (v .remains)),
         )
 
     pub rules-end : RulesSoFar text p b t q → (h .class ≡ class.Rule → ⊥) → RulesRead text p b t (Ok q)
     rules-end s z =
-        (s, λ xs l i ys e. not-ruled z (subst (λ v. Seen text v (h .class) (h .place) (h .end)) e (k .seen xs l)))
+        (s, λ xs l i ys e. not-ruled z (subst (λ v. Seen text v (h .class) (h .place) (h .end)) e
+            (k .seen xs l)))
 
     rule-stop :
         {i e : ℕ} {xs us : Tokens} {f : Fault}
@@ -256,7 +277,12 @@ module _ (text : List ℕ) (p : ℕ) (b : Table) where
         → Seen text us class.Rule i e
         → Stopped text (Unit {0}) (λ _. rules) xs f
     rule-stop go o (a-token {xs = zs} says-rule l) =
-        let s = o zs l in record { rest = s .rest; there = s .there; halts = λ _. go _ _ (goes-on line-rule tt (s .halts tt)) }
+        let s = o zs l in
+        record {
+          rest = s .rest;
+          there = s .there;
+          halts = λ _. go _ _ (goes-on line-rule tt (s .halts tt));
+        }
 
     pub rules-stop :
         (f : Fault)
@@ -289,7 +315,8 @@ refuses :
     → Parsed text (Err f)
 refuses {text} {f} h ts cut =
     let s = h (tokens ts) (left cut) in
-    subst (Refused (tokens ts) (length text) (table.number (f .refusal))) (sym (s .there)) (refused (length text) (s .halts tt))
+    subst (Refused (tokens ts) (length text) (table.number (f .refusal))) (sym (s .there))
+        (refused (length text) (s .halts tt))
 
 module _ (text : List ℕ) (b : Table) where
   pub parse-first : (f : Fault) → FirstRead text b b (Err f) → Parsed text (Err f)
@@ -326,7 +353,8 @@ module _ (text : List ℕ) (b : Table) where
               rest = s .rest;
               there = s .there;
               halts =
-                  λ _. v .goes tt _ _ (u .goes tt _ _ (halts-fields (g .1 (u .rest) (u .remains)) (y .goes tt _ _ (s .halts tt))));
+                  λ _. v .goes tt _ _ (u .goes tt _ _ (halts-fields (g .1 (u .rest) (u .remains))
+                      (y .goes tt _ _ (s .halts tt))));
             })
 
         parsed-ok :

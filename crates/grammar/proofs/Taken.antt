@@ -89,9 +89,11 @@ module _ {L : Limits} where
   compared-taken a-constant a = takes unit-number tt (takes (asked is-sign) tt a)
   compared-taken a-bare a = takes unit-name tt (takes (unit-compares (no-sum tt (asked is-sign))) tt a)
   compared-taken a-sum a =
-      takes unit-name tt (takes (unit-compares sum-plus) tt (takes (asked is-number) tt (takes (asked is-sign) tt a)))
+      takes unit-name tt (takes (unit-compares sum-plus) tt
+          (takes (asked is-number) tt (takes (asked is-sign) tt a)))
   compared-taken a-difference a =
-      takes unit-name tt (takes (unit-compares sum-minus) tt (takes (asked is-number) tt (takes (asked is-sign) tt a)))
+      takes unit-name tt (takes (unit-compares sum-minus) tt
+          (takes (asked is-number) tt (takes (asked is-sign) tt a)))
 
   -- a unit after a join, without weights
   signed-taken :
@@ -148,7 +150,8 @@ reads-taken (a-call ts) = λ l o h a. takes unit-name tt (takes unit-call tt (te
 reads-taken (a-not n b) = λ l o h a. takes unit-not n (reads-taken b l o h a)
 reads-taken (a-pick n b) = λ l o h a. takes unit-pick n (takes (asked is-name) tt (reads-taken b l o h a))
 reads-taken (brackets {d} {q = q} {r = r} n b) =
-    λ l o h a. takes unit-bracket n (reads-taken b (inner (d - 1) l o) closing q r refl by-closing refl (takes bracket-end tt a))
+    λ l o h a. takes unit-bracket n (reads-taken b (inner (d - 1) l o) closing q r refl by-closing refl
+        (takes bracket-end tt a))
 reads-taken {L} (alone {d} {l} {xs} b) = λ o t p ys e h z a.
     reads-taken b l o (subst Apart (sym e) (ends-apart h)) (subst (Accepts L (more l o)) (sym e) a)
 reads-taken {L} (a-join {d} {l = l} {zs = zs} {j = j} b n w c) = λ o t p ys e h z a.
@@ -163,7 +166,9 @@ module _ {L : Limits} where
       → Accepts L fields xs
   fields-taken done a = a
   fields-taken (line a-field m) a =
-      takes line-field tt (takes (asked is-name) tt (takes (asked is-number) tt (takes (asked is-number) tt (takes (asked is-semicolon) tt (fields-taken m a)))))
+      takes line-field tt (takes (asked is-name) tt
+          (takes (asked is-number) tt (takes (asked is-number) tt
+          (takes (asked is-semicolon) tt (fields-taken m a)))))
 
   rules-taken :
       {xs r : Tokens} {rs : List Rule}
@@ -172,18 +177,22 @@ module _ {L : Limits} where
       → Accepts L rules xs
   rules-taken done a = a
   rules-taken (line (a-rule {e = e} {r = r} n f) m) a =
-      takes line-rule tt (takes (asked is-name) tt (takes (asked is-opening) tt (names-taken n (takes (asked is-colon) tt
-      (reads-taken f (whole of-rule) semicolon e r refl by-semicolon refl (takes rule-end tt (rules-taken m a)))))))
+      takes line-rule tt (takes (asked is-name) tt
+          (takes (asked is-opening) tt (names-taken n (takes (asked is-colon) tt
+      (reads-taken f (whole of-rule) semicolon e r refl by-semicolon refl
+          (takes rule-end tt (rules-taken m a)))))))
 
   no-fields : {xs : Tokens} → Accepts L rules xs → Accepts L fields xs
   no-fields (takes m n a) = takes (no-field m) n a
 
   mark-taken : {xs : Tokens} {m : Mark} → MarkBy L xs [] m → Accepts L rules xs
   mark-taken (a-mark {e =
-      e} f) = takes line-mark tt (reads-taken f (whole of-mark) semicolon e [] refl by-semicolon refl (takes mark-end tt accepted))
+      e} f) = takes line-mark tt (reads-taken f (whole of-mark) semicolon e [] refl by-semicolon refl
+          (takes mark-end tt accepted))
 
   -- a sheet is taken to its end
   pub sheet-taken : {xs : Tokens} {s : Sheet} → SheetBy L xs s → Accepts L start xs
   sheet-taken (a-sheet a-field fs rs m) =
-      takes (asked is-field) tt (takes (asked is-name) tt (takes (asked is-number) tt (takes (asked is-number) tt (takes (asked is-semicolon) tt
+      takes (asked is-field) tt (takes (asked is-name) tt
+          (takes (asked is-number) tt (takes (asked is-number) tt (takes (asked is-semicolon) tt
       (fields-taken fs (no-fields (rules-taken rs (mark-taken m))))))))

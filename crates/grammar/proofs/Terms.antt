@@ -33,7 +33,8 @@ use Rattle.grammar.proofs.Leaves.{no, refused-at, Stuck, stops, real, seen-as}
 
 -- what is stopped after an item is stopped before it
 pub then-stops :
-    {text : List ℕ} {C : Type 0} {before after : C → State} {xs : Tokens} {q : ℕ} {Item : Tokens → Type 0} {f : Fault}
+    {text : List ℕ} {C : Type 0} {before after : C → State} {xs : Tokens} {q : ℕ} {Item : Tokens → Type 0}
+        {f : Fault}
     (v : Came text C before after xs q Item)
     → Stopped text C after (v .rest) f
     → Stopped text C before xs f
@@ -99,7 +100,12 @@ module _ (text : List ℕ) where
       → Came text State term (λ s. s) xs (x .end) (λ us. IsTerm xs us (term-of text (x .value)))
   named-came x h (a-token {xs = us} (says-name g) l) =
       let m = h .2 us l in
-      record { rest = m .rest; remains = m .remains; goes = λ s n r k. goes-on term-name tt (m .goes s n r k); item = m .item _ _ g }
+      record {
+        rest = m .rest;
+        remains = m .remains;
+        goes = λ s n r k. goes-on term-name tt (m .goes s n r k);
+        item = m .item _ _ g;
+      }
 
   named-stopped :
       {v : WordEntry} {f : Fault} {q e : ℕ} {xs : Tokens}
@@ -107,7 +113,12 @@ module _ (text : List ℕ) where
       → Seen text xs (class.Name v) q e
       → Stopped text State term xs f
   named-stopped h (a-token {xs = us} (says-name g) l) =
-      let m = h us l in record { rest = m .rest; there = m .there; halts = λ s. goes-on term-name tt (m .halts s) }
+      let m = h us l in
+      record {
+        rest = m .rest;
+        there = m .there;
+        halts = λ s. goes-on term-name tt (m .halts s);
+      }
 
   no-term :
       {k : Class}
@@ -132,7 +143,8 @@ module _ (text : List ℕ) where
       → x ≡ word w j
       → IsTerm (at (name w) j ∷ at minus q ∷ us) r (lowered x m)
   lowered-item {q = q} {j = j} {w = w} (a-number {n = m} {p = i} {r = r}) g =
-      subst (λ z. IsTerm (at (name w) j ∷ at minus q ∷ at (number m) i ∷ r) r (lowered z m)) (sym g) a-difference
+      subst (λ z. IsTerm (at (name w) j ∷ at minus q ∷ at (number m) i ∷ r) r (lowered z m)) (sym g)
+          a-difference
 
   -- what a sum is read to
   abbrev SumCame : WordEntry → TermEntry → Tokens → ℕ → Type 0
@@ -146,7 +158,12 @@ module _ (text : List ℕ) where
       → SumCame v (entry.Raised v (x .value .value)) xs (x .end)
   raised-came v x h (a-token {xs = us} says-plus l) =
       let m = h .2 us l in
-      record { rest = m .rest; remains = m .remains; goes = λ s n r k. goes-on sum-plus tt (m .goes s n r k); item = λ w i g. raised-item (m .item) g }
+      record {
+        rest = m .rest;
+        remains = m .remains;
+        goes = λ s n r k. goes-on sum-plus tt (m .goes s n r k);
+        item = λ w i g. raised-item (m .item) g;
+      }
 
   lowered-came :
       (v : WordEntry) (x : Read NumberEntry) {q e : ℕ} {xs : Tokens}
@@ -155,7 +172,12 @@ module _ (text : List ℕ) where
       → SumCame v (entry.Lowered v (x .value .value)) xs (x .end)
   lowered-came v x h (a-token {xs = us} says-minus l) =
       let m = h .2 us l in
-      record { rest = m .rest; remains = m .remains; goes = λ s n r k. goes-on sum-minus tt (m .goes s n r k); item = λ w i g. lowered-item (m .item) g }
+      record {
+        rest = m .rest;
+        remains = m .remains;
+        goes = λ s n r k. goes-on sum-minus tt (m .goes s n r k);
+        item = λ w i g. lowered-item (m .item) g;
+      }
 
   plus-stopped :
       {f : Fault} {q e : ℕ} {xs : Tokens}
@@ -163,7 +185,12 @@ module _ (text : List ℕ) where
       → Seen text xs class.Plus q e
       → Stopped text State summed xs f
   plus-stopped h (a-token {xs = us} says-plus l) =
-      let m = h us l in record { rest = m .rest; there = m .there; halts = λ s. goes-on sum-plus tt (m .halts s) }
+      let m = h us l in
+      record {
+        rest = m .rest;
+        there = m .there;
+        halts = λ s. goes-on sum-plus tt (m .halts s);
+      }
 
   minus-stopped :
       {f : Fault} {q e : ℕ} {xs : Tokens}
@@ -171,7 +198,12 @@ module _ (text : List ℕ) where
       → Seen text xs class.Minus q e
       → Stopped text State summed xs f
   minus-stopped h (a-token {xs = us} says-minus l) =
-      let m = h us l in record { rest = m .rest; there = m .there; halts = λ s. goes-on sum-minus tt (m .halts s) }
+      let m = h us l in
+      record {
+        rest = m .rest;
+        there = m .there;
+        halts = λ s. goes-on sum-minus tt (m .halts s);
+      }
 
 module _ (text : List ℕ) (p : ℕ) (a : Ahead) (h : Peeked text p a) where
   pub constant-read :
@@ -179,7 +211,8 @@ module _ (text : List ℕ) (p : ℕ) (a : Ahead) (h : Peeked text p a) where
       → a .class ≡ class.Number m
       → TermRead text p (Ok (record { value = entry.Constant m; end = a .end }))
   constant-read m is =
-      let r = real text p a h (λ e. no (cc)) in (r .0, r .1, λ xs l. constant-came text (seen-as text p a h is xs l))
+      let r = real text p a h (λ e. no (cc)) in
+          (r .0, r .1, λ xs l. constant-came text (seen-as text p a h is xs l))
 
   pub named-read :
       (v : WordEntry) (r : Result (Read TermEntry) Fault)

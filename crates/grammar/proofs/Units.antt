@@ -89,7 +89,8 @@ module _ (text : List ℕ) (d : ℕ) (b a : Table) where
   -- what a unit is read to
   abbrev UnitCame : Tokens → Part → ℕ → Type 0
   UnitCame xs part q =
-      Came text Around (λ c. a-unit d (c .0) (c .1)) (λ c. more (c .0) (c .1)) xs q (FormulaIs text unit d b a part xs)
+      Came text Around (λ c. a-unit d (c .0) (c .1)) (λ c. more (c .0) (c .1)) xs q
+          (FormulaIs text unit d b a part xs)
 
   abbrev UnitStopped : Tokens → Fault → Type 0
   UnitStopped xs f = Stopped text Around (λ c. a-unit d (c .0) (c .1)) xs f
@@ -101,7 +102,12 @@ module _ (text : List ℕ) (d : ℕ) (b a : Table) where
       → UnitCame xs (x .value) (x .end)
   number-came x o (a-token {xs = us} says-number l) =
       let v = o .2 us l in
-      record { rest = v .rest; remains = v .remains; goes = λ c n r z. goes-on unit-number tt (v .goes c n r z); item = v .item d _ a-constant }
+      record {
+        rest = v .rest;
+        remains = v .remains;
+        goes = λ c n r z. goes-on unit-number tt (v .goes c n r z);
+        item = v .item d _ a-constant;
+      }
 
   number-stopped :
       {m q e : ℕ} {xs : Tokens} {f : Fault}
@@ -109,7 +115,12 @@ module _ (text : List ℕ) (d : ℕ) (b a : Table) where
       → Seen text xs (class.Number m) q e
       → UnitStopped xs f
   number-stopped o (a-token {xs = us} says-number l) =
-      let v = o us l in record { rest = v .rest; there = v .there; halts = λ c. goes-on unit-number tt (v .halts c) }
+      let v = o us l in
+      record {
+        rest = v .rest;
+        there = v .there;
+        halts = λ c. goes-on unit-number tt (v .halts c);
+      }
 
   name-came :
       {w : WordEntry} {q e : ℕ} {xs : Tokens} (x : Read Part)
@@ -118,7 +129,12 @@ module _ (text : List ℕ) (d : ℕ) (b a : Table) where
       → UnitCame xs (x .value) (x .end)
   name-came x o (a-token {xs = us} (says-name g) l) =
       let v = o .2 us l in
-      record { rest = v .rest; remains = v .remains; goes = λ c n r z. goes-on unit-name tt (v .goes c n r z); item = v .item d _ _ g }
+      record {
+        rest = v .rest;
+        remains = v .remains;
+        goes = λ c n r z. goes-on unit-name tt (v .goes c n r z);
+        item = v .item d _ _ g;
+      }
 
   name-stopped :
       {w : WordEntry} {q e : ℕ} {xs : Tokens} {f : Fault}
@@ -126,7 +142,12 @@ module _ (text : List ℕ) (d : ℕ) (b a : Table) where
       → Seen text xs (class.Name w) q e
       → UnitStopped xs f
   name-stopped o (a-token {xs = us} (says-name g) l) =
-      let v = o us l in record { rest = v .rest; there = v .there; halts = λ c. goes-on unit-name tt (v .halts c) }
+      let v = o us l in
+      record {
+        rest = v .rest;
+        there = v .there;
+        halts = λ c. goes-on unit-name tt (v .halts c);
+      }
 
   not-came :
       {q e i : ℕ} {m : Table} {xs : Tokens} (x : Read Part)
@@ -152,7 +173,12 @@ module _ (text : List ℕ) (d : ℕ) (b a : Table) where
       → Seen text xs class.Not q e
       → UnitStopped xs f
   not-stopped lt o (a-token {xs = us} says-not l) =
-      let v = o us l in record { rest = v .rest; there = v .there; halts = λ c. goes-on unit-not lt (v .halts c) }
+      let v = o us l in
+      record {
+        rest = v .rest;
+        there = v .there;
+        halts = λ c. goes-on unit-not lt (v .halts c);
+      }
 
   pick-came :
       {q e i : ℕ} {m : Table} {xs : Tokens} (w : Read WordEntry) (x : Read Part)
@@ -171,7 +197,8 @@ module _ (text : List ℕ) (d : ℕ) (b a : Table) where
         remains = v .remains;
         goes = λ c n r z. goes-on unit-pick lt (u .goes (a-unit (d - 1) (c .0) (c .1)) n r (v .goes c n r z));
         item =
-            (picked (word-of text (w .value)) (f .0), pick-item lt (u .item) (f .1), entered-pick text (x .value) (f .2) (w .value) p);
+            (picked (word-of text (w .value)) (f .0), pick-item lt (u .item) (f .1), entered-pick text
+                (x .value) (f .2) (w .value) p);
       }
 
   pick-name-stopped :
@@ -181,7 +208,12 @@ module _ (text : List ℕ) (d : ℕ) (b a : Table) where
       → Seen text xs class.Pick q e
       → UnitStopped xs f
   pick-name-stopped lt y (a-token {xs = us} says-pick l) =
-      let u = y us l in record { rest = u .rest; there = u .there; halts = λ c. goes-on unit-pick lt (u .halts (a-unit (d - 1) (c .0) (c .1))) }
+      let u = y us l in
+      record {
+        rest = u .rest;
+        there = u .there;
+        halts = λ c. goes-on unit-pick lt (u .halts (a-unit (d - 1) (c .0) (c .1)));
+      }
 
   pick-stopped :
       {q e : ℕ} {xs : Tokens} {f : Fault} (w : Read WordEntry)
@@ -193,14 +225,19 @@ module _ (text : List ℕ) (d : ℕ) (b a : Table) where
   pick-stopped w lt y o (a-token {xs = us} says-pick l) =
       let u = y .2 us l in
       let v = o (u .rest) (u .remains) in
-      record { rest = v .rest; there = v .there; halts = λ c. goes-on unit-pick lt (u .goes (a-unit (d - 1) (c .0) (c .1)) _ _ (v .halts c)) }
+      record {
+        rest = v .rest;
+        there = v .there;
+        halts = λ c. goes-on unit-pick lt (u .goes (a-unit (d - 1) (c .0) (c .1)) _ _ (v .halts c));
+      }
 
   -- a formula in brackets, and the closing bracket
   closed-came :
       {q i : ℕ} {us zs rest : Tokens} {part : Part}
       → 0 < d
       → FormulaIs text (formula any) (d - 1) b a part us zs
-      → ((o : Open) → allowance o ≡ d - 1 → (n : ℕ) (r : Tokens) → Halts (more any o) zs n r → Halts (a-unit (d - 1) any o) us n r)
+      → ((o : Open) → allowance o ≡ d - 1 → (n : ℕ) (r : Tokens) → Halts (more any o) zs n r → Halts
+          (a-unit (d - 1) any o) us n r)
       → FirstIs closing-sign zs rest
       → Left text q rest
       → UnitCame (at opening i ∷ us) part q
@@ -208,7 +245,8 @@ module _ (text : List ℕ) (d : ℕ) (b a : Table) where
     rest = _;
     remains = l;
     goes =
-        λ c n r z. goes-on unit-bracket lt (g (inner (d - 1) (c .0) (c .1)) refl n r (goes-on bracket-end tt z));
+        λ c n r z. goes-on unit-bracket lt (g (inner (d - 1) (c .0) (c .1)) refl n r
+            (goes-on bracket-end tt z));
     item = (f .0, brackets lt (f .1), f .2);
   }
 
@@ -232,7 +270,11 @@ module _ (text : List ℕ) (d : ℕ) (b a : Table) where
       → UnitStopped xs f
   bracket-stopped lt o (a-token {xs = us} says-opening l) =
       let v = o us l in
-      record { rest = v .rest; there = v .there; halts = λ c. goes-on unit-bracket lt (v .halts (inner (d - 1) (c .0) (c .1), refl)) }
+      record {
+        rest = v .rest;
+        there = v .there;
+        halts = λ c. goes-on unit-bracket lt (v .halts (inner (d - 1) (c .0) (c .1), refl));
+      }
 
   unclosed-stopped :
       {q e : ℕ} {xs : Tokens} (x : Read Part) {f : Fault}
@@ -248,7 +290,8 @@ module _ (text : List ℕ) (d : ℕ) (b a : Table) where
         rest = v .rest;
         there = y .1;
         halts = λ c. goes-on unit-bracket lt (v .goes (inner (d - 1) (c .0) (c .1), refl) _ _
-            (subst (λ n. Halts (more any (inner (d - 1) (c .0) (c .1))) (v .rest) n (v .rest)) (sym (y .0)) (not-closed (v .rest) (v .item .1) (y .2))));
+            (subst (λ n. Halts (more any (inner (d - 1) (c .0) (c .1))) (v .rest) n (v .rest)) (sym (y .0))
+                (not-closed (v .rest) (v .item .1) (y .2))));
       }
 
   -- a token that opens a level too many
@@ -256,7 +299,8 @@ module _ (text : List ℕ) (d : ℕ) (b a : Table) where
       {q e : ℕ} {k : Class} {xs : Tokens} (f : Fault)
       → f ≡ record { refusal = TooDeep; place = q }
       → d ≡ 0
-      → ((c : Around) (t : Tok) (i : ℕ) → Says text k t i → (u : State) × Move (a-unit d (c .0) (c .1)) t (level d) u)
+      → ((c : Around) (t : Tok) (i : ℕ) → Says text k t i → (u : State) × Move (a-unit d (c .0) (c .1)) t
+          (level d) u)
       → Seen text xs k q e
       → (k ≡ class.End → ⊥)
       → UnitStopped xs f
@@ -265,7 +309,8 @@ module _ (text : List ℕ) (d : ℕ) (b a : Table) where
     rest = at t q ∷ us;
     there = ap (λ g. g .place) e;
     halts =
-        λ c. subst (λ g. Halts (a-unit d (c .0) (c .1)) (at t q ∷ us) (table.number (g .refusal)) (at t q ∷ us)) (sym e) (halts-deep (m c t q s .1) z);
+        λ c. subst (λ g. Halts (a-unit d (c .0) (c .1)) (at t q ∷ us) (table.number (g .refusal))
+            (at t q ∷ us)) (sym e) (halts-deep (m c t q s .1) z);
   }
 
 module _ (text : List ℕ) (d p : ℕ) (b a : Table) (h : Ahead) (k : Peeked text p h) where
@@ -295,7 +340,8 @@ module _ (text : List ℕ) (d p : ℕ) (b a : Table) (h : Ahead) (k : Peeked tex
       → 0 < d
       → UnitRead text (d - 1) (h .end) b m (Ok x)
       → Pushed m a (node.Negated (x .value .body)) i
-      → y ≡ record { value = record { body = i; size = x .value .size + 1; joins = x .value .joins }; end = x .end }
+      → y ≡ record { value = record { body = i; size = x .value .size + 1; joins = x .value .joins }; end = x
+          .end }
       → UnitRead text d p b a (Ok y)
   not-unit x y is lt o u e =
       let g = real text p h k (λ z. no (cc)) in
@@ -317,12 +363,14 @@ module _ (text : List ℕ) (d p : ℕ) (b a : Table) (h : Ahead) (k : Peeked tex
       → NameRead text (h .end) (Ok w)
       → UnitRead text (d - 1) (w .end) b m (Ok x)
       → Pushed m a (node.Picked (w .value) (x .value .body)) i
-      → y ≡ record { value = record { body = i; size = x .value .size + 1; joins = x .value .joins }; end = x .end }
+      → y ≡ record { value = record { body = i; size = x .value .size + 1; joins = x .value .joins }; end = x
+          .end }
       → UnitRead text d p b a (Ok y)
   pick-unit w x y is lt v o u e =
       let g = real text p h k (λ z. no (cc)) in
       subst (λ z. UnitRead text d p b a (Ok z)) (sym e)
-      (omega (arith, g .0, v .0, o .0), o .1, λ xs l. pick-came text d b a w x lt v o u (seen-as text p h k is xs l))
+      (omega (arith, g .0, v .0, o .0), o .1, λ xs l. pick-came text d b a w x lt v o u
+          (seen-as text p h k is xs l))
 
   pub pick-name-stops :
       (f : Fault)
@@ -350,7 +398,8 @@ module _ (text : List ℕ) (d p : ℕ) (b a : Table) (h : Ahead) (k : Peeked tex
       → UnitRead text d p b a (Ok (record { value = x .value; end = j }))
   bracket-unit x j is lt o u =
       let g = real text p h k (λ z. no (cc)) in
-      (omega (arith, g .0, o .0, u .0), u .1, λ xs l. bracket-came text d b a x lt o u (seen-as text p h k is xs l))
+      (omega (arith, g .0, o .0, u .0), u .1, λ xs l. bracket-came text d b a x lt o u
+          (seen-as text p h k is xs l))
 
   pub bracket-stops :
       (f : Fault)
@@ -505,14 +554,16 @@ module _ (text : List ℕ) (d p : ℕ) (l : Level) where
         {q e : ℕ} {xs zs : Tokens} (f : Fault)
         → f ≡ record { refusal = JoinMixes; place = q }
         → (Fits strict l j → ⊥)
-        → ((c : Around) (n : ℕ) (r : Tokens) → Halts (more (c .0) (c .1)) zs n r → Halts (a-unit d (c .0) (c .1)) xs n r)
+        → ((c : Around) (n : ℕ) (r : Tokens) → Halts (more (c .0) (c .1)) zs n r → Halts
+            (a-unit d (c .0) (c .1)) xs n r)
         → Seen text zs (class.Join j) q e
         → Stopped text ((o : Open) × (allowance o ≡ d)) (λ c. a-unit d l (c .0)) xs f
     mixed-from f e z g (a-token {p = q} {xs = us} says-join y) = record {
       rest = at (join j) q ∷ us;
       there = ap (λ v. v .place) e;
       halts =
-          λ c. g (l, c .0) _ _ (subst (λ v. Halts (more l (c .0)) (at (join j) q ∷ us) (table.number (v .refusal)) (at (join j) q ∷ us)) (sym e) (halts-mixed next-join z));
+          λ c. g (l, c .0) _ _ (subst (λ v. Halts (more l (c .0)) (at (join j) q ∷ us)
+              (table.number (v .refusal)) (at (join j) q ∷ us)) (sym e) (halts-mixed next-join z));
     }
 
     pub mixed-stops :
@@ -529,7 +580,8 @@ module _ (text : List ℕ) (d p : ℕ) (l : Level) where
     joined-halts :
         {q e : ℕ} {xs zs : Tokens}
         → Fits strict l j
-        → ((c : Around) (n : ℕ) (r : Tokens) → Halts (more (c .0) (c .1)) zs n r → Halts (a-unit d (c .0) (c .1)) xs n r)
+        → ((c : Around) (n : ℕ) (r : Tokens) → Halts (more (c .0) (c .1)) zs n r → Halts
+            (a-unit d (c .0) (c .1)) xs n r)
         → Seen text zs (class.Join j) q e
         → (us : Tokens) × Left text e us × (zs ≡ at (join j) q ∷ us)
         × ((o : Open) (n : ℕ) (r : Tokens) → Halts (after-join j o) us n r → Halts (a-unit d l o) xs n r)
@@ -562,7 +614,8 @@ module _ (text : List ℕ) (d p : ℕ) (l : Level) where
           rest = s .rest;
           there = s .there;
           halts = λ c. y .3 (c .0) _ _ (i .goes (j, c .0) _ _
-              (subst (λ e. Halts (a-unit e (only j) (c .0)) (i .rest) (table.number (f .refusal)) (s .rest)) (sym (c .1)) (s .halts c)));
+              (subst (λ e. Halts (a-unit e (only j) (c .0)) (i .rest) (table.number (f .refusal)) (s .rest))
+                  (sym (c .1)) (s .halts c)));
         }
 
     pub join-formula :
@@ -574,7 +627,11 @@ module _ (text : List ℕ) (d p : ℕ) (l : Level) where
         → Pushed n a (node.Joined j (w .value) (x .value .body) (y .value .body)) i
         → FormulaRead text d l p b a (Ok (record {
           value =
-              record { body = i; size = x .value .size + y .value .size + 1; joins = x .value .joins + y .value .joins + 1 };
+              record {
+                body = i;
+                size = x .value .size + y .value .size + 1;
+                joins = x .value .joins + y .value .joins + 1;
+              };
           end = y .end;
         }))
     join-formula w y fit u gr g e =
@@ -593,16 +650,19 @@ module _ (text : List ℕ) (d p : ℕ) (l : Level) where
                 rest = t .rest;
                 remains = t .remains;
                 goes = λ c n z w. q .3 (c .0) n z (i .goes (j, c .0) n z
-                    (subst (λ e. Halts (a-unit e (only j) (c .0)) (i .rest) n z) (sym (c .1)) (t .goes c n z (halts-level (t .item .1) w))));
+                    (subst (λ e. Halts (a-unit e (only j) (c .0)) (i .rest) n z) (sym (c .1))
+                        (t .goes c n z (halts-level (t .item .1) w))));
                 item =
-                    (((_, a-join left fit (i .item) (f′ .1), entered-join text (x .value) (y .value) j (w .value) (f .2) gr (f′ .2) e)), t .item .1);
+                    (((_, a-join left fit (i .item) (f′ .1), entered-join text (x .value) (y .value) j
+                        (w .value) (f .2) gr (f′ .2) e)), t .item .1);
               },
         )
 
 -- a formula around a part is measured one more
 pub within-measured :
     (p q i : ℕ) (x y : Read Part)
-    → y ≡ record { value = record { body = i; size = x .value .size + 1; joins = x .value .joins }; end = x .end }
+    → y ≡ record { value = record { body = i; size = x .value .size + 1; joins = x .value .joins }; end = x
+        .end }
     → p < q
     → Measured q (Ok x)
     → Measured p (Ok y)

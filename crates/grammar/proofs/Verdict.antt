@@ -104,7 +104,8 @@ refused-from before size w (halts-mixed {xs = xs} {j = j} m g) =
     at-token before xs refl (begins w) (mixes-at w m g) (mixes j (joins m) (stands (path-loosely w) m tt))
 refused-from before size w (halts-end h) =
     subst (λ z. Refused z size 4 size) (sym (append-nil before))
-    (at-end (begins w) (λ s d. finished (accepts-after w (subst (Accepts strict start) (sym (append-nil before)) (sheet-taken d))) h))
+    (at-end (begins w) (λ s d. finished (accepts-after w
+        (subst (Accepts strict start) (sym (append-nil before)) (sheet-taken d))) h))
 
 pub refused : {k : ℕ} {xs r : Tokens} (size : ℕ) → Halts start xs k r → Refused xs size k (place-of size r)
 refused size h = refused-from [] size here h
@@ -187,7 +188,8 @@ begins-over :
     → Begins strict xs
     → Stands strict before t
 begins-over t p before after e b =
-    (p, after ++ b .0, b .1, subst (λ z. IsSheet z (b .1)) (ap (λ z. z ++ b .0) e ∙ append-assoc before (at t p ∷ after) (b .0)) (b .2))
+    (p, after ++ b .0, b .1, subst (λ z. IsSheet z (b .1))
+        (ap (λ z. z ++ b .0) e ∙ append-assoc before (at t p ∷ after) (b .0)) (b .2))
 
 -- two cuts of one list are the same, or one lies behind the other
 data Cuts (b c : Tokens) (x y : Placed) : Type 0 where

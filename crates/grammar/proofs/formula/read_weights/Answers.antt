@@ -3,7 +3,8 @@ use Rattle.grammar.proofs.Formulas.{absent-read, no-colon-read, given-read, gi
 use Rattle.grammar.proofs.formula.read_weights.Needs as need
 
 pub returns-in-rest : need.returns-in-rest
-returns-in-rest c = absent-read _ _ (c .peek-first .result) (c .peek-first .ensures) (c .pre) (c .in-rest .not-Number)
+returns-in-rest c = absent-read _ _ (c .peek-first .result) (c .peek-first .ensures) (c .pre)
+    (c .in-rest .not-Number)
 
 pub returns-in-rest-class : need.returns-in-rest-class
 returns-in-rest-class c =
