@@ -76,18 +76,31 @@ move-once weight-colon weight-colon = (refl, refl)
 move-once weight-none weight-none = (refl, refl)
 
 -- a path, and then the rest
-pub path-accepts : {L : Limits} {s u : State} {xs ys : Tokens} → Path L s xs u → Accepts L u ys → Accepts L s (xs ++ ys)
+pub path-accepts :
+    {L : Limits} {s u : State} {xs ys : Tokens}
+    → Path L s xs u
+    → Accepts L u ys
+    → Accepts L s (xs ++ ys)
 path-accepts here a = a
 path-accepts (step m h w) a = takes m h (path-accepts w a)
 
 -- what is taken along a path is taken from its end
-pub accepts-after : {L : Limits} {s u : State} {xs ys : Tokens} → Path L s xs u → Accepts L s (xs ++ ys) → Accepts L u ys
+pub accepts-after :
+    {L : Limits} {s u : State} {xs ys : Tokens}
+    → Path L s xs u
+    → Accepts L s (xs ++ ys)
+    → Accepts L u ys
 accepts-after here a = a
 accepts-after {L} {ys = ys} (step {xs = xs} m h w) (takes k g a) =
     accepts-after w (subst (λ v. Accepts L v (xs ++ ys)) (move-once k m .1) a)
 
 -- one token more
-pub path-more : {L : Limits} {s u v : State} {t : Tok} {n : Need} {xs : Tokens} (p : ℕ) → Path L s xs u → Move u t n v → Allowed L n → Path L s (xs ++ at t p ∷ []) v
+pub path-more :
+    {L : Limits} {s u v : State} {t : Tok} {n : Need} {xs : Tokens} (p : ℕ)
+    → Path L s xs u
+    → Move u t n v
+    → Allowed L n
+    → Path L s (xs ++ at t p ∷ []) v
 path-more p here k g = step k g here
 path-more p (step m h w) k g = step m h (path-more p w k g)
 

@@ -34,8 +34,11 @@ says-by :
     (text w : List ℕ) (p : ℕ) (a b c d e f g : Bool)
     → word-of text (record { place = p; length = length w }) ≡ word w p
     → Says text
-      (cond a class.Field (cond b class.Rule (cond c class.Mark (cond d (class.Join And) (cond e (class.Join Or) (cond f class.Not (cond g class.Pick (class.Name (record { place = p; length = length w })))))))))
-      (cond a field (cond b rule (cond c mark (cond d (join And) (cond e (join Or) (cond f not (cond g pick (name w)))))))) p
+    (cond a class.Field (cond b class.Rule (cond c class.Mark
+        (cond d (class.Join And) (cond e (class.Join Or)
+        (cond f class.Not (cond g class.Pick (class.Name (record { place = p; length = length w })))))))))
+    (cond a field (cond b rule (cond c mark (cond d (join And)
+        (cond e (join Or) (cond f not (cond g pick (name w)))))))) p
 says-by text w p true b c d e f g h = says-field
 says-by text w p false true c d e f g h = says-rule
 says-by text w p false false true d e f g h = says-mark
@@ -66,12 +69,14 @@ word-stands :
     → take (length u) (drop q text) ≡ u
 word-stands {p} text (gap h c) e = word-stands text c (sym (drop-drop 1 p text) ∙ ap (drop 1) e)
 word-stands {u = u} text (token {after = after} t h c) e =
-    ap (take (length u)) (e ∙ t .split ∙ ap (λ z. z ++ after) (word-spelt (t .spells))) ∙ take-at u after (length u) refl
+    ap (take (length u)) (e ∙ t .split ∙ ap (λ z. z ++ after) (word-spelt (t .spells))) ∙ take-at u after
+        (length u) refl
 
 module _ (text : List ℕ) (p : ℕ) (t : Placed) (n : NextToken text p t) where
   peeked :
       (k : Class)
-      → ((us : List TokAt) → CutFrom text p (placed t ∷ us) → Says text k (tokens.token (spelt (t .token))) (t .place))
+      → ((us : List TokAt) → CutFrom text p (placed t ∷ us) → Says text k (tokens.token (spelt (t .token)))
+          (t .place))
       → Peeked text p (record { class = k; place = t .place; end = t .end })
   peeked k says = record { onward = λ _. (omega (arith, n .after, n .some), n .inside); seen = see }
     where
@@ -87,11 +92,13 @@ module _ (text : List ℕ) (p : ℕ) (t : Placed) (n : NextToken text p t) where
       → k ≡ word-class (w .now) (t .place)
       → Peeked text p (record { class = k; place = t .place; end = t .end })
   word-ahead w k is e = peeked k (λ us cut.
-      let there = word-stands text (subst (λ z. CutFrom text p (signs.at (spelt z) (t .place) ∷ us)) is cut) refl in
+      let there = word-stands text (subst (λ z. CutFrom text p (signs.at (spelt z) (t .place) ∷ us)) is cut)
+          refl in
       let says = says-by text (w .now) (t .place)
-        (sameBytes (w .now) (codes "field")) (sameBytes (w .now) (codes "rule")) (sameBytes (w .now) (codes "mark"))
-        (sameBytes (w .now) (codes "and")) (sameBytes (w .now) (codes "or")) (sameBytes (w .now) (codes "not"))
-        (sameBytes (w .now) (codes "pick")) (ap (λ z. word z (t .place)) there) in
+      (sameBytes (w .now) (codes "field")) (sameBytes (w .now) (codes "rule"))
+          (sameBytes (w .now) (codes "mark"))
+      (sameBytes (w .now) (codes "and")) (sameBytes (w .now) (codes "or")) (sameBytes (w .now) (codes "not"))
+      (sameBytes (w .now) (codes "pick")) (ap (λ z. word z (t .place)) there) in
       subst (λ z. Says text k (tokens.token (spelt z)) (t .place)) (sym is)
       (subst (λ z. Says text z (tokens.word-token (w .now)) (t .place)) (sym e) says))
 
@@ -112,7 +119,13 @@ module _ (text : List ℕ) (p : ℕ) (t : Placed) (n : NextToken text p t) where
       (subst (λ z. Says text z (tokens.sign-token g) (t .place)) (sym e) (sign-says text g (t .place))))
 
 -- where no token comes next, none is left
-none-left : (text : List ℕ) (p : ℕ) (r : Next) → Follows text p r → ((t : Placed) → r ≡ next.Token t → ⊥) → (ts : List TokAt) → CutFrom text p ts → ts ≡ []
+none-left :
+    (text : List ℕ) (p : ℕ) (r : Next)
+    → Follows text p r
+    → ((t : Placed) → r ≡ next.Token t → ⊥)
+    → (ts : List TokAt)
+    → CutFrom text p ts
+    → ts ≡ []
 none-left text p (next.Token t) h k ts cut = absurd (k t refl)
 none-left text p next.End h k ts cut = h .only ts cut
 none-left text p (next.Fault f) h k ts cut = absurd (h .uncut ts cut)
@@ -126,5 +139,6 @@ end-ahead text p r h k = record { onward = λ g. absurd (g refl); seen = see }
   where
     see : (xs : Tokens) → Left text p xs → Seen text xs class.End (length text) (length text)
     see _ (left {ts} cut) =
-        subst (λ z. Seen text (tokens.tokens z) class.End (length text) (length text)) (sym (none-left text p r h k ts cut))
+        subst (λ z. Seen text (tokens.tokens z) class.End (length text) (length text))
+            (sym (none-left text p r h k ts cut))
         (no-token refl)

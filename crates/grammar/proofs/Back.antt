@@ -23,9 +23,12 @@ term-back (lowered (word w p) n) r = a-difference
 module _
     (A : Type 0) (Item : Tokens → Tokens → A → Type 0) (write-one : A → Tokens → Tokens)
     (back-one : (a : A) (r : Tokens) → Item (write-one a r) r a) where
-  parted-back : (a : A) (bs : List A) (r : Tokens) → Parted A Item (write-one a (write-more A write-one bs r)) r (a ∷ bs)
+  parted-back :
+      (a : A) (bs : List A) (r : Tokens)
+      → Parted A Item (write-one a (write-more A write-one bs r)) r (a ∷ bs)
   parted-back a [] r = last (back-one a (at closing 0 ∷ r))
-  parted-back a (b ∷ bs) r = next (back-one a (at comma 0 ∷ write-one b (write-more A write-one bs r))) (parted-back b bs r)
+  parted-back a (b ∷ bs) r =
+      next (back-one a (at comma 0 ∷ write-one b (write-more A write-one bs r))) (parted-back b bs r)
 
   list-back : (bs : List A) (r : Tokens) → Listed A Item (write-list A write-one bs r) r bs
   list-back [] r = none
@@ -45,17 +48,22 @@ back (called (word w p) ts) k d r h = as-kind k (a-call (list-back Term IsTerm w
 back (negated f) k d r h = as-kind k (a-not (omega arith) (back f unit (d - 1) r (omega arith)))
 back (picked (word w p) f) k d r h = as-kind k (a-pick (omega arith) (back f unit (d - 1) r (omega arith)))
 back (joined j w f g) unit d r h =
-    brackets (omega arith) (a-join (back f unit (d - 1) _ (omega arith)) tt (weights-back w _) (back g (formula (only j)) (d - 1) _ (omega arith)))
+    brackets (omega arith) (a-join (back f unit (d - 1) _ (omega arith)) tt (weights-back w _)
+        (back g (formula (only j)) (d - 1) _ (omega arith)))
 back (joined j w f g) (formula any) d r h =
     a-join (back f unit d _ (omega arith)) tt (weights-back w _) (back g (formula (only j)) d r (omega arith))
 back (joined And w f g) (formula (only And)) d r h =
-    a-join (back f unit d _ (omega arith)) refl (weights-back w _) (back g (formula (only And)) d r (omega arith))
+    a-join (back f unit d _ (omega arith)) refl (weights-back w _)
+        (back g (formula (only And)) d r (omega arith))
 back (joined Or w f g) (formula (only Or)) d r h =
-    a-join (back f unit d _ (omega arith)) refl (weights-back w _) (back g (formula (only Or)) d r (omega arith))
+    a-join (back f unit d _ (omega arith)) refl (weights-back w _)
+        (back g (formula (only Or)) d r (omega arith))
 back (joined And w f g) (formula (only Or)) d r h =
-    alone (brackets (omega arith) (a-join (back f unit (d - 1) _ (omega arith)) tt (weights-back w _) (back g (formula (only And)) (d - 1) _ (omega arith))))
+    alone (brackets (omega arith) (a-join (back f unit (d - 1) _ (omega arith)) tt (weights-back w _)
+        (back g (formula (only And)) (d - 1) _ (omega arith))))
 back (joined Or w f g) (formula (only And)) d r h =
-    alone (brackets (omega arith) (a-join (back f unit (d - 1) _ (omega arith)) tt (weights-back w _) (back g (formula (only Or)) (d - 1) _ (omega arith))))
+    alone (brackets (omega arith) (a-join (back f unit (d - 1) _ (omega arith)) tt (weights-back w _)
+        (back g (formula (only Or)) (d - 1) _ (omega arith))))
 
 fields-back : (fs : List Field) (r : Tokens) → Many Field IsField (write-fields fs r) r fs
 fields-back [] r = done
@@ -64,7 +72,8 @@ fields-back (field-line p (word w q) (num l i) (num h k) ∷ fs) r = line a-fiel
 rules-back : (rs : List Rule) (r : Tokens) → ShallowRules rs → Many Rule IsRule (write-rules rs r) r rs
 rules-back [] r h = done
 rules-back (rule-line p (word w q) ps f ∷ rs) r h =
-    line (a-rule (list-back Word IsName write-name name-back ps _) (back f (formula any) 16 _ (h .0))) (rules-back rs r (h .1))
+    line (a-rule (list-back Word IsName write-name name-back ps _) (back f (formula any) 16 _ (h .0)))
+        (rules-back rs r (h .1))
 
 pub read-back : Read-back
 read-back (sheet [] rs (mark-line a g)) h = absurd (h .0)

@@ -30,11 +30,15 @@ use Rattle.grammar.specs.Parsing.{Left, Says, says-closing, says-comma, Seen, 
 use Rattle.grammar.proofs.Leaves.{no, refused-at, Stuck, stops, real, seen-as}
 
 -- one item more
-mapped-more : {X A : Type 0} (of : X → A) (xs : List X) (x : X) (bs : List A) → map of xs ++ of x ∷ bs ≡ map of (xs ++ x ∷ []) ++ bs
+mapped-more :
+    {X A : Type 0} (of : X → A) (xs : List X) (x : X) (bs : List A)
+    → map of xs ++ of x ∷ bs ≡ map of (xs ++ x ∷ []) ++ bs
 mapped-more of [] x bs = refl
 mapped-more of (y ∷ xs) x bs = ap (λ l. of y ∷ l) (mapped-more of xs x bs)
 
-mapped-last : {X A : Type 0} (of : X → A) (xs : List X) (x : X) → map of xs ++ of x ∷ [] ≡ map of (xs ++ x ∷ [])
+mapped-last :
+    {X A : Type 0} (of : X → A) (xs : List X) (x : X)
+    → map of xs ++ of x ∷ [] ≡ map of (xs ++ x ∷ [])
 mapped-last of [] x = refl
 mapped-last of (y ∷ xs) x = ap (λ l. of y ∷ l) (mapped-last of xs x)
 
@@ -46,15 +50,16 @@ pub record Brackets (listed more one : State → State) : Type 0 where
   pub unfinished : (s : State) → Unfinished (more s)
   -- only a comma or a closing bracket stands after an item
   pub stuck :
-    (text : List ℕ) (k : Class) → (k ≡ class.Comma → ⊥) → (k ≡ class.Closing → ⊥) → (s : State) → Stuck text k (more s)
+      (text : List ℕ) (k : Class) → (k ≡ class.Comma → ⊥) → (k ≡ class.Closing → ⊥) → (s : State) → Stuck text
+          k (more s)
   -- where no closing bracket stands, a list begins with an item
   pub begins :
-    (text : List ℕ) (k : Class) (q e : ℕ) (xs : Tokens)
-    → (k ≡ class.Closing → ⊥)
-    → Seen text xs k q e
-    → (s : State) (n : ℕ) (r : Tokens)
-    → Halts (one (more s)) xs n r
-    → Halts (listed s) xs n r
+      (text : List ℕ) (k : Class) (q e : ℕ) (xs : Tokens)
+      → (k ≡ class.Closing → ⊥)
+      → Seen text xs k q e
+      → (s : State) (n : ℕ) (r : Tokens)
+      → Halts (one (more s)) xs n r
+      → Halts (listed s) xs n r
 
 module _
     (text : List ℕ) (X A : Type 0) (of : X → A) (Item : Tokens → Tokens → A → Type 0)
@@ -62,13 +67,18 @@ module _
   -- the list that xs begins with is read up to place q
   abbrev ListCame : Tokens → Few X → ℕ → Type 0
   ListCame xs list q =
-      Came text State listed (λ s. s) xs q (λ us. (all : List X) × Holds4 X list all × Listed A Item xs us (map of all))
+      Came text State listed (λ s. s) xs q (λ us. (all : List X) × Holds4 X list all × Listed A Item xs us
+          (map of all))
 
   -- and so far with one more due
   abbrev Due : Tokens → Few X → ℕ → Type 0
   Due xs list q = Begun text X A of Item listed (λ s. one (more s)) xs list q
 
-  pub none-came : (list : Few X) {q e : ℕ} {xs : Tokens} → Holds4 X list [] → Seen text xs class.Closing q e → ListCame xs list e
+  pub none-came :
+      (list : Few X) {q e : ℕ} {xs : Tokens}
+      → Holds4 X list []
+      → Seen text xs class.Closing q e
+      → ListCame xs list e
   none-came list h (a-token says-closing l) = record {
     rest = _;
     remains = l;
@@ -76,7 +86,13 @@ module _
     item = ([], h, none);
   }
 
-  pub first-due : (list : Few X) (k : Class) (p q e : ℕ) (xs : Tokens) → Holds4 X list [] → Left text p xs → (k ≡ class.Closing → ⊥) → Seen text xs k q e → Due xs list p
+  pub first-due :
+      (list : Few X) (k : Class) (p q e : ℕ) (xs : Tokens)
+      → Holds4 X list []
+      → Left text p xs
+      → (k ≡ class.Closing → ⊥)
+      → Seen text xs k q e
+      → Due xs list p
   first-due list k p q e xs h l z s = record {
     rest = xs;
     remains = l;
@@ -86,7 +102,9 @@ module _
     joins = λ r bs i. i;
   }
 
-  module _ (list then : Few X) (x : X) (p : ℕ) (keeps : (all : List X) → Holds4 X list all → Holds4 X then (all ++ x ∷ [])) where
+  module _
+      (list then : Few X) (x : X) (p : ℕ)
+      (keeps : (all : List X) → Holds4 X list all → Holds4 X then (all ++ x ∷ [])) where
     again :
         {xs zs : Tokens} {q e : ℕ} (b : Due xs list p)
         → ((s : State) (n : ℕ) (r : Tokens) → Halts s zs n r → Halts (one s) (b .rest) n r)
@@ -99,7 +117,9 @@ module _
       goes = λ s n r k. b .goes s n r (g (more s) n r (goes-on (moves .goes-more s) tt k));
       all = b .all ++ x ∷ [];
       held = keeps (b .all) (b .held);
-      joins = λ r bs k. subst (Parted A Item _ r) (mapped-more of (b .all) x bs) (b .joins r (of x ∷ bs) (next i k));
+      joins =
+          λ r bs k. subst (Parted A Item _ r) (mapped-more of (b .all) x bs)
+              (b .joins r (of x ∷ bs) (next i k));
     }
 
     ended :
@@ -112,8 +132,11 @@ module _
       rest = _;
       remains = l;
       goes = λ s n r k. b .goes s n r (g (more s) n r (goes-on (moves .ends-more s) tt k));
-      item = (b .all ++ x ∷ [], keeps (b .all) (b .held),
-        some (subst (Parted A Item _ _) (mapped-last of (b .all) x) (b .joins _ (of x ∷ []) (last i))));
+      item = (
+        b .all ++ x ∷ [],
+        keeps (b .all) (b .held),
+        some (subst (Parted A Item _ _) (mapped-last of (b .all) x) (b .joins _ (of x ∷ []) (last i))),
+      );
     }
 
     pub due-again :
@@ -149,8 +172,13 @@ module _
         → Stopped text State listed xs f
     after-item q a f b h k y z e =
         let v = h (b .rest) (b .remains) in
-        let t = stops more f e (k .seen (v .rest) (v .remains)) (moves .unfinished) (moves .stuck text (a .class) y z) in
-        record { rest = t .rest; there = t .there; halts = λ s. b .goes s _ _ (v .goes (more s) _ _ (t .halts s)) }
+        let t = stops more f e (k .seen (v .rest) (v .remains)) (moves .unfinished)
+            (moves .stuck text (a .class) y z) in
+        record {
+          rest = t .rest;
+          there = t .there;
+          halts = λ s. b .goes s _ _ (v .goes (more s) _ _ (t .halts s));
+        }
 
   pub no-item :
       {xs : Tokens} (list : Few X) (p : ℕ) (f : Fault)
@@ -189,19 +217,24 @@ module _
 
   module _
       (p q e : ℕ) (list then : Few X) (x : X) (d : Reading p list q)
-      (o : Outcome text q State one (λ s. s) X (λ v xs us. Item xs us (of v)) (Ok (record { value = x; end = e })))
+      (o : Outcome text q State one (λ s. s) X (λ v xs us. Item xs us (of v))
+          (Ok (record { value = x; end = e })))
       (grows : then .count ≡ list .count + 1)
       (keeps : (all : List X) → Holds4 X list all → Holds4 X then (all ++ x ∷ []))
       (a : Ahead) (k : Peeked text e a) where
     pub reading-again : a .class ≡ class.Comma → Reading p then (a .end)
     reading-again is =
         let r = real text e a k (λ z. no (cc)) in
-        (omega (arith, d .0, o .0, r .0), r .1, λ xs l. due-again list then x q keeps e a (d .2 xs l) (o .2) k is)
+        (omega (arith, d .0, o .0, r .0), r .1, λ xs l. due-again list then x q keeps e a (d .2 xs l) (o .2) k
+            is)
 
-    pub list-read : a .class ≡ class.Closing → ListRead text p X A of Item listed (Ok (record { value = then; end = a .end }))
+    pub list-read :
+        a .class ≡ class.Closing
+        → ListRead text p X A of Item listed (Ok (record { value = then; end = a .end }))
     list-read is =
         let r = real text e a k (λ z. no (cc)) in
-        (omega (arith, d .0, o .0, r .0), r .1, λ xs l. list-came list then x q keeps e a (d .2 xs l) (o .2) k is)
+        (omega (arith, d .0, o .0, r .0), r .1, λ xs l. list-came list then x q keeps e a (d .2 xs l) (o .2) k
+            is)
 
     pub list-stops :
         (f : Fault)
@@ -219,16 +252,33 @@ module _
   item-stops p q list f d o xs l = no-item list q f (d .2 xs l) o
 
 -- the terms of a call
-terms-stuck : {text : List ℕ} {k : Class} {s u : State} {t : Tok} {i : ℕ} {n : Need} → (k ≡ class.Comma → ⊥) → (k ≡ class.Closing → ⊥) → Move (more-terms s) t n u → Says text k t i → ⊥
+terms-stuck :
+    {text : List ℕ} {k : Class} {s u : State} {t : Tok} {i : ℕ} {n : Need}
+    → (k ≡ class.Comma → ⊥)
+    → (k ≡ class.Closing → ⊥)
+    → Move (more-terms s) t n u
+    → Says text k t i
+    → ⊥
 terms-stuck y z terms-end says-closing = z refl
 terms-stuck y z next-term says-comma = y refl
 
-not-terms : {text : List ℕ} {k : Class} {s v u : State} {t : Tok} {i : ℕ} {n : Need} → (k ≡ class.Closing → ⊥) → ((m : Need) (x : State) → Move (term v) t m x → ⊥) → Move (terms s) t n u → Says text k t i → ⊥
+not-terms :
+    {text : List ℕ} {k : Class} {s v u : State} {t : Tok} {i : ℕ} {n : Need}
+    → (k ≡ class.Closing → ⊥)
+    → ((m : Need) (x : State) → Move (term v) t m x → ⊥)
+    → Move (terms s) t n u
+    → Says text k t i
+    → ⊥
 not-terms z h no-terms says-closing = z refl
 not-terms z h first-number w = h _ _ term-number
 not-terms z h first-term w = h _ _ term-name
 
-terms-begin : {text : List ℕ} {k : Class} {q e n : ℕ} {s : State} {xs r : Tokens} → (k ≡ class.Closing → ⊥) → Seen text xs k q e → Halts (term (more-terms s)) xs n r → Halts (terms s) xs n r
+terms-begin :
+    {text : List ℕ} {k : Class} {q e n : ℕ} {s : State} {xs r : Tokens}
+    → (k ≡ class.Closing → ⊥)
+    → Seen text xs k q e
+    → Halts (term (more-terms s)) xs n r
+    → Halts (terms s) xs n r
 terms-begin z w (goes-on term-number a h) = goes-on first-number a h
 terms-begin z w (goes-on term-name a h) = goes-on first-term a h
 terms-begin z (a-token w l) (halts-token h) = halts-token (λ n u m. not-terms z h m w)
@@ -247,15 +297,32 @@ term-brackets = record {
 }
 
 -- the names of a rule
-names-stuck : {text : List ℕ} {k : Class} {s u : State} {t : Tok} {i : ℕ} {n : Need} → (k ≡ class.Comma → ⊥) → (k ≡ class.Closing → ⊥) → Move (more-names s) t n u → Says text k t i → ⊥
+names-stuck :
+    {text : List ℕ} {k : Class} {s u : State} {t : Tok} {i : ℕ} {n : Need}
+    → (k ≡ class.Comma → ⊥)
+    → (k ≡ class.Closing → ⊥)
+    → Move (more-names s) t n u
+    → Says text k t i
+    → ⊥
 names-stuck y z names-end says-closing = z refl
 names-stuck y z next-name says-comma = y refl
 
-not-names : {text : List ℕ} {k : Class} {s v u : State} {t : Tok} {i : ℕ} {n : Need} → (k ≡ class.Closing → ⊥) → ((m : Need) (x : State) → Move (expects some-name v) t m x → ⊥) → Move (names s) t n u → Says text k t i → ⊥
+not-names :
+    {text : List ℕ} {k : Class} {s v u : State} {t : Tok} {i : ℕ} {n : Need}
+    → (k ≡ class.Closing → ⊥)
+    → ((m : Need) (x : State) → Move (expects some-name v) t m x → ⊥)
+    → Move (names s) t n u
+    → Says text k t i
+    → ⊥
 not-names z h no-names says-closing = z refl
 not-names z h first-name w = h _ _ (asked is-name)
 
-names-begin : {text : List ℕ} {k : Class} {q e n : ℕ} {s : State} {xs r : Tokens} → (k ≡ class.Closing → ⊥) → Seen text xs k q e → Halts (expects some-name (more-names s)) xs n r → Halts (names s) xs n r
+names-begin :
+    {text : List ℕ} {k : Class} {q e n : ℕ} {s : State} {xs r : Tokens}
+    → (k ≡ class.Closing → ⊥)
+    → Seen text xs k q e
+    → Halts (expects some-name (more-names s)) xs n r
+    → Halts (names s) xs n r
 names-begin z w (goes-on (asked is-name) a h) = goes-on first-name a h
 names-begin z (a-token w l) (halts-token h) = halts-token (λ n u m. not-names z h m w)
 names-begin z w (halts-deep m e) = elim m [ ]

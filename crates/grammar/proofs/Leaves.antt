@@ -59,7 +59,7 @@ stops before f e (a-token {t = t} {p = p} {xs = xs} s l) h z = record {
   rest = at t p ∷ xs;
   there = ap (λ g. g .place) e;
   halts = λ c. subst (λ g. Halts (before c) (at t p ∷ xs) (table.number (g .refusal)) (at t p ∷ xs)) (sym e)
-    (halts-token (λ n u m. z c _ _ n u m s));
+      (halts-token (λ n u m. z c _ _ n u m s));
 }
 
 module _ (text : List ℕ) (p : ℕ) (a : Ahead) (h : Peeked text p a) where
@@ -67,10 +67,18 @@ module _ (text : List ℕ) (p : ℕ) (a : Ahead) (h : Peeked text p a) where
   pub real : (a .class ≡ class.End → ⊥) → (p < a .end) × (a .end ≤ length text)
   real = h .onward
 
-  pub seen-as : {k : Class} → a .class ≡ k → (xs : Tokens) → Left text p xs → Seen text xs k (a .place) (a .end)
+  pub seen-as :
+      {k : Class}
+      → a .class ≡ k
+      → (xs : Tokens)
+      → Left text p xs
+      → Seen text xs k (a .place) (a .end)
   seen-as e xs l = subst (λ k. Seen text xs k (a .place) (a .end)) e (h .seen xs l)
 
-  name-came : {v : WordEntry} {q e : ℕ} {xs : Tokens} → Seen text xs (class.Name v) q e → Came text State (expects some-name) (λ s. s) xs e (λ us. IsName xs us (word-of text v))
+  name-came :
+      {v : WordEntry} {q e : ℕ} {xs : Tokens}
+      → Seen text xs (class.Name v) q e
+      → Came text State (expects some-name) (λ s. s) xs e (λ us. IsName xs us (word-of text v))
   name-came (a-token {p = p} {xs = us} (says-name {w = w} g) l) = record {
     rest = _;
     remains = l;
@@ -78,41 +86,85 @@ module _ (text : List ℕ) (p : ℕ) (a : Ahead) (h : Peeked text p a) where
     item = subst (IsName _ us) (sym g) a-name;
   }
 
-  pub name-read : (v : WordEntry) → a .class ≡ class.Name v → NameRead text p (Ok (record { value = v; end = a .end }))
+  pub name-read :
+      (v : WordEntry)
+      → a .class ≡ class.Name v
+      → NameRead text p (Ok (record { value = v; end = a .end }))
   name-read v is = let r = real (λ e. no (cc)) in (r .0, r .1, λ xs l. name-came (seen-as is xs l))
 
-  no-name : {k : Class} → ((v : WordEntry) → k ≡ class.Name v → ⊥) → (s : State) → Stuck text k (expects some-name s)
+  no-name :
+      {k : Class}
+      → ((v : WordEntry) → k ≡ class.Name v → ⊥)
+      → (s : State)
+      → Stuck text k (expects some-name s)
   no-name z s t i n u (asked is-name) (says-name g) = z _ refl
 
-  pub name-stops : (f : Fault) → f ≡ refused-at (a .place) → ((v : WordEntry) → a .class ≡ class.Name v → ⊥) → NameRead text p (Err f)
+  pub name-stops :
+      (f : Fault)
+      → f ≡ refused-at (a .place)
+      → ((v : WordEntry) → a .class ≡ class.Name v → ⊥)
+      → NameRead text p (Err f)
   name-stops f e z xs l = stops (expects some-name) f e (h .seen xs l) (λ s. tt) (no-name z)
 
-  number-came : {m q e : ℕ} {xs : Tokens} → Seen text xs (class.Number m) q e → Came text State (expects some-number) (λ s. s) xs e (λ us. IsNumber xs us (num m q))
-  number-came (a-token says-number l) = record { rest = _; remains = l; goes = λ s n r k. goes-on (asked is-number) tt k; item = a-number }
+  number-came :
+      {m q e : ℕ} {xs : Tokens}
+      → Seen text xs (class.Number m) q e
+      → Came text State (expects some-number) (λ s. s) xs e (λ us. IsNumber xs us (num m q))
+  number-came (a-token says-number l) =
+      record { rest = _; remains = l; goes = λ s n r k. goes-on (asked is-number) tt k; item = a-number }
 
-  pub number-read : (m : ℕ) → a .class ≡ class.Number m → NumberRead text p (Ok (record { value = record { value = m; place = a .place }; end = a .end }))
+  pub number-read :
+      (m : ℕ)
+      → a .class ≡ class.Number m
+      → NumberRead text p (Ok (record { value = record { value = m; place = a .place }; end = a .end }))
   number-read m is = let r = real (λ e. no (cc)) in (r .0, r .1, λ xs l. number-came (seen-as is xs l))
 
-  no-number : {k : Class} → ((m : ℕ) → k ≡ class.Number m → ⊥) → (s : State) → Stuck text k (expects some-number s)
+  no-number :
+      {k : Class}
+      → ((m : ℕ) → k ≡ class.Number m → ⊥)
+      → (s : State)
+      → Stuck text k (expects some-number s)
   no-number z s t i n u (asked is-number) says-number = z _ refl
 
-  pub number-stops : (f : Fault) → f ≡ refused-at (a .place) → ((m : ℕ) → a .class ≡ class.Number m → ⊥) → NumberRead text p (Err f)
+  pub number-stops :
+      (f : Fault)
+      → f ≡ refused-at (a .place)
+      → ((m : ℕ) → a .class ≡ class.Number m → ⊥)
+      → NumberRead text p (Err f)
   number-stops f e z xs l = stops (expects some-number) f e (h .seen xs l) (λ s. tt) (no-number z)
 
-  sign-came : {c : Comparison} {q e : ℕ} {xs : Tokens} → Seen text xs (class.Compare c) q e → Came text State (expects some-sign) (λ s. s) xs e (λ us. IsSign xs us c)
-  sign-came (a-token says-sign l) = record { rest = _; remains = l; goes = λ s n r k. goes-on (asked is-sign) tt k; item = a-sign }
+  sign-came :
+      {c : Comparison} {q e : ℕ} {xs : Tokens}
+      → Seen text xs (class.Compare c) q e
+      → Came text State (expects some-sign) (λ s. s) xs e (λ us. IsSign xs us c)
+  sign-came (a-token says-sign l) =
+      record { rest = _; remains = l; goes = λ s n r k. goes-on (asked is-sign) tt k; item = a-sign }
 
-  pub sign-read : (c : Comparison) → a .class ≡ class.Compare c → SignRead text p (Ok (record { value = c; end = a .end }))
+  pub sign-read :
+      (c : Comparison)
+      → a .class ≡ class.Compare c
+      → SignRead text p (Ok (record { value = c; end = a .end }))
   sign-read c is = let r = real (λ e. no (cc)) in (r .0, r .1, λ xs l. sign-came (seen-as is xs l))
 
-  no-sign : {k : Class} → ((c : Comparison) → k ≡ class.Compare c → ⊥) → (s : State) → Stuck text k (expects some-sign s)
+  no-sign :
+      {k : Class}
+      → ((c : Comparison) → k ≡ class.Compare c → ⊥)
+      → (s : State)
+      → Stuck text k (expects some-sign s)
   no-sign z s t i n u (asked is-sign) says-sign = z _ refl
 
-  pub sign-stops : (f : Fault) → f ≡ refused-at (a .place) → ((c : Comparison) → a .class ≡ class.Compare c → ⊥) → SignRead text p (Err f)
+  pub sign-stops :
+      (f : Fault)
+      → f ≡ refused-at (a .place)
+      → ((c : Comparison) → a .class ≡ class.Compare c → ⊥)
+      → SignRead text p (Err f)
   sign-stops f e z xs l = stops (expects some-sign) f e (h .seen xs l) (λ s. tt) (no-sign z)
 
   -- a sign that is asked for
-  fixed-came : (g : Fixed) {q e : ℕ} {xs : Tokens} → Seen text xs (fixed-class g) q e → (us : Tokens) × FirstIs (fixed-shape g) xs us × Left text e us
+  fixed-came :
+      (g : Fixed) {q e : ℕ} {xs : Tokens}
+      → Seen text xs (fixed-class g) q e
+      → (us : Tokens) × FirstIs (fixed-shape g) xs us × Left text e us
   fixed-came fixed.Opening (a-token says-opening l) = (_, first-is is-opening, l)
   fixed-came fixed.Closing (a-token says-closing l) = (_, first-is is-closing, l)
   fixed-came fixed.Semicolon (a-token says-semicolon l) = (_, first-is is-semicolon, l)
@@ -129,7 +181,12 @@ module _ (text : List ℕ) (p : ℕ) (a : Ahead) (h : Peeked text p a) where
       let r = real (λ e. fixed-real g (sym is ∙ e)) in
       (r .0, r .1, λ xs l. fixed-came g (seen-as is xs l))
 
-  not-first : (g : Fixed) {k : Class} {q e : ℕ} {xs us : Tokens} → (k ≡ fixed-class g → ⊥) → FirstIs (fixed-shape g) xs us → Seen text xs k q e → ⊥
+  not-first :
+      (g : Fixed) {k : Class} {q e : ℕ} {xs us : Tokens}
+      → (k ≡ fixed-class g → ⊥)
+      → FirstIs (fixed-shape g) xs us
+      → Seen text xs k q e
+      → ⊥
   not-first fixed.Opening z (first-is is-opening) (a-token says-opening l) = z refl
   not-first fixed.Closing z (first-is is-closing) (a-token says-closing l) = z refl
   not-first fixed.Semicolon z (first-is is-semicolon) (a-token says-semicolon l) = z refl
@@ -139,7 +196,11 @@ module _ (text : List ℕ) (p : ℕ) (a : Ahead) (h : Peeked text p a) where
   seen-place (no-token g) = g
   seen-place (a-token s l) = refl
 
-  pub fixed-stops : (g : Fixed) (f : Fault) → f ≡ refused-at (a .place) → (a .class ≡ fixed-class g → ⊥) → Expected text p (fixed-shape g) (Err f)
+  pub fixed-stops :
+      (g : Fixed) (f : Fault)
+      → f ≡ refused-at (a .place)
+      → (a .class ≡ fixed-class g → ⊥)
+      → Expected text p (fixed-shape g) (Err f)
   fixed-stops g f e z xs l =
       let s = h .seen xs l in
       (ap (λ x. table.number (x .refusal)) e, ap (λ x. x .place) e ∙ seen-place s, λ us i. not-first g z i s)

@@ -39,24 +39,51 @@ use Rattle.grammar.proofs.Keeping.{lines-grown}
 
 -- A sign that is asked for
 
-first-goes : {k : Shape} {s : State} {n : ℕ} {xs us r : Tokens} → FirstIs k xs us → Halts s us n r → Halts (expects k s) xs n r
+first-goes :
+    {k : Shape} {s : State} {n : ℕ} {xs us r : Tokens}
+    → FirstIs k xs us
+    → Halts s us n r
+    → Halts (expects k s) xs n r
 first-goes (first-is i) h = goes-on (asked i) tt h
 
-not-expected : {k : Shape} {s : State} (xs : Tokens) → ((us : Tokens) → FirstIs k xs us → ⊥) → Halts (expects k s) xs 4 xs
+not-expected :
+    {k : Shape} {s : State} (xs : Tokens)
+    → ((us : Tokens) → FirstIs k xs us → ⊥)
+    → Halts (expects k s) xs 4 xs
 not-expected [] z = halts-end tt
 not-expected (at t p ∷ xs) z = halts-token (λ n u m. not-this m z)
   where
-    not-this : {k : Shape} {s u : State} {t : Tok} {n : Need} → Move (expects k s) t n u → ((us : Tokens) → FirstIs k (at t p ∷ xs) us → ⊥) → ⊥
+    not-this :
+        {k : Shape} {s u : State} {t : Tok} {n : Need}
+        → Move (expects k s) t n u
+        → ((us : Tokens) → FirstIs k (at t p ∷ xs) us → ⊥)
+        → ⊥
     not-this (asked i) z = z xs (first-is i)
 
-expected-stops : {text : List ℕ} {k : Shape} {p : ℕ} {f : Fault} → Expected text p k (Err f) → (xs : Tokens) → Left text p xs → Stopped text State (expects k) xs f
+expected-stops :
+    {text : List ℕ} {k : Shape} {p : ℕ} {f : Fault}
+    → Expected text p k (Err f)
+    → (xs : Tokens)
+    → Left text p xs
+    → Stopped text State (expects k) xs f
 expected-stops {k = k} {f = f} h xs l =
     let y = h xs l in
-    record { rest = xs; there = y .1; halts = λ s. subst (λ n. Halts (expects k s) xs n xs) (sym (y .0)) (not-expected xs (y .2)) }
+    record {
+      rest = xs;
+      there = y .1;
+      halts = λ s. subst (λ n. Halts (expects k s) xs n xs) (sym (y .0)) (not-expected xs (y .2));
+    }
 
 -- The head of a rule
 
-head-item : {text : List ℕ} (head : Head) {xs rs us ws zs : Tokens} (all : List WordEntry) → Holds4 WordEntry (head .params) all → IsName xs rs (word-of text (head .name)) → FirstIs opening-sign rs us → Listed Word IsName us ws (map (word-of text) all) → FirstIs colon-sign ws zs → HeadIs text head xs zs
+head-item :
+    {text : List ℕ} (head : Head) {xs rs us ws zs : Tokens} (all : List WordEntry)
+    → Holds4 WordEntry (head .params) all
+    → IsName xs rs (word-of text (head .name))
+    → FirstIs opening-sign rs us
+    → Listed Word IsName us ws (map (word-of text) all)
+    → FirstIs colon-sign ws zs
+    → HeadIs text head xs zs
 head-item head all h a-name (first-is is-opening) l (first-is is-colon) = a-head all refl h l
 
 module _ (text : List ℕ) (p : ℕ) (w : Read WordEntry) (h : NameRead text p (Ok w)) where
@@ -64,7 +91,11 @@ module _ (text : List ℕ) (p : ℕ) (w : Read WordEntry) (h : NameRead text p (
   no-opening f e xs l =
       let v = h .2 xs l in
       let s = expected-stops e (v .rest) (v .remains) in
-      record { rest = s .rest; there = s .there; halts = λ _. v .goes (expects opening-sign (names rule-body)) _ _ (s .halts (names rule-body)) }
+      record {
+        rest = s .rest;
+        there = s .there;
+        halts = λ _. v .goes (expects opening-sign (names rule-body)) _ _ (s .halts (names rule-body));
+      }
 
   module _ (o : ℕ) (g : Expected text (w .end) opening-sign (Ok o)) where
     pub no-params : (f : Fault) → NamesRead text o (Err f) → HeadRead text p (Err f)
@@ -75,7 +106,9 @@ module _ (text : List ℕ) (p : ℕ) (w : Read WordEntry) (h : NameRead text p (
         record {
           rest = s .rest;
           there = s .there;
-          halts = λ _. v .goes (expects opening-sign (names rule-body)) _ _ (first-goes (y .1) (s .halts rule-body));
+          halts =
+              λ _. v .goes (expects opening-sign (names rule-body)) _ _
+                  (first-goes (y .1) (s .halts rule-body));
         }
 
     module _ (ps : Read (Few WordEntry)) (u : NamesRead text o (Ok ps)) where
@@ -89,47 +122,76 @@ module _ (text : List ℕ) (p : ℕ) (w : Read WordEntry) (h : NameRead text p (
             rest = s .rest;
             there = s .there;
             halts = λ _. v .goes (expects opening-sign (names rule-body)) _ _
-              (first-goes (y .1) (n .goes rule-body _ _ (s .halts (a-unit 16 any (whole of-rule)))));
+                (first-goes (y .1) (n .goes rule-body _ _ (s .halts (a-unit 16 any (whole of-rule)))));
           }
 
-      pub head-read : (e : ℕ) → Expected text (ps .end) colon-sign (Ok e) → HeadRead text p (Ok (record { value = record { name = w .value; params = ps .value }; end = e }))
-      head-read e c = (omega (arith, h .0, g .0, u .0, c .0), c .1, λ xs l.
-          let v = h .2 xs l in
-          let y = g .2 (v .rest) (v .remains) in
-          let n = u .2 (y .0) (y .2) in
-          let z = c .2 (n .rest) (n .remains) in
-          record {
-            rest = z .0;
-            remains = z .2;
-            goes = λ _ k r q. v .goes (expects opening-sign (names rule-body)) k r
-              (first-goes (y .1) (n .goes rule-body k r (first-goes (z .1) q)));
-            item = head-item _ (n .item .0) (n .item .1) (v .item) (y .1) (n .item .2) (z .1);
-          })
+      pub head-read :
+          (e : ℕ)
+          → Expected text (ps .end) colon-sign (Ok e)
+          → HeadRead text p (Ok (record { value = record { name = w .value; params = ps .value }; end = e }))
+      head-read e c = (
+        omega (arith, h .0, g .0, u .0, c .0),
+        c .1,
+        λ xs l.
+            let v = h .2 xs l in
+            let y = g .2 (v .rest) (v .remains) in
+            let n = u .2 (y .0) (y .2) in
+            let z = c .2 (n .rest) (n .remains) in
+            record {
+              rest = z .0;
+              remains = z .2;
+              goes = λ _ k r q. v .goes (expects opening-sign (names rule-body)) k r
+                  (first-goes (y .1) (n .goes rule-body k r (first-goes (z .1) q)));
+              item = head-item _ (n .item .0) (n .item .1) (v .item) (y .1) (n .item .2) (z .1);
+            },
+      )
 
 -- The formula of a line
 
-ends-line : (n : Line) {k : ℕ} {xs us r : Tokens} → FirstIs semicolon-sign xs us → Halts (after-line n) us k r → Halts (more any (whole n)) xs k r
+ends-line :
+    (n : Line) {k : ℕ} {xs us r : Tokens}
+    → FirstIs semicolon-sign xs us
+    → Halts (after-line n) us k r
+    → Halts (more any (whole n)) xs k r
 ends-line of-rule (first-is is-semicolon) h = goes-on rule-end tt h
 ends-line of-mark (first-is is-semicolon) h = goes-on mark-end tt h
 
-not-ended : (n : Line) (xs : Tokens) → NoJoin xs → ((us : Tokens) → FirstIs semicolon-sign xs us → ⊥) → Halts (more any (whole n)) xs 4 xs
+not-ended :
+    (n : Line) (xs : Tokens)
+    → NoJoin xs
+    → ((us : Tokens) → FirstIs semicolon-sign xs us → ⊥)
+    → Halts (more any (whole n)) xs 4 xs
 not-ended n [] j z = halts-end tt
 not-ended n (at t p ∷ xs) j z = halts-token (λ k u m. due m j z)
   where
-    due : {n : Line} {t : Tok} {k : Need} {u : State} → Move (more any (whole n)) t k u → NoJoin (at t p ∷ xs) → ((us : Tokens) → FirstIs semicolon-sign (at t p ∷ xs) us → ⊥) → ⊥
+    due :
+        {n : Line} {t : Tok} {k : Need} {u : State}
+        → Move (more any (whole n)) t k u
+        → NoJoin (at t p ∷ xs)
+        → ((us : Tokens) → FirstIs semicolon-sign (at t p ∷ xs) us → ⊥)
+        → ⊥
     due next-join j z = j _ p xs refl
     due rule-end j z = z xs (first-is is-semicolon)
     due mark-end j z = z xs (first-is is-semicolon)
 
-body-item : {text : List ℕ} {b a : Table} (part : Part) {xs zs us : Tokens} {f : Formula} → Reads (formula any) 16 xs zs f → Entered text b a part f → FirstIs semicolon-sign zs us → BodyIs text b a part xs us
+body-item :
+    {text : List ℕ} {b a : Table} (part : Part) {xs zs us : Tokens} {f : Formula}
+    → Reads (formula any) 16 xs zs f
+    → Entered text b a part f
+    → FirstIs semicolon-sign zs us
+    → BodyIs text b a part xs us
 body-item part r e (first-is is-semicolon) = a-body r e
 
 module _ (text : List ℕ) (p : ℕ) (b a : Table) where
   pub formula-stops : (f : Fault) → FormulaRead text 16 any p b a (Err f) → BodyRead text p b a (Err f)
-  formula-stops f h xs l = let s = h xs l in record { rest = s .rest; there = s .there; halts = λ n. s .halts (whole n, refl) }
+  formula-stops f h xs l =
+      let s = h xs l in record { rest = s .rest; there = s .there; halts = λ n. s .halts (whole n, refl) }
 
   module _ (x : Read Part) (h : FormulaRead text 16 any p b a (Ok x)) where
-    pub no-semicolon : (f : Fault) → Expected text (x .end) semicolon-sign (Err f) → BodyRead text p b a (Err f)
+    pub no-semicolon :
+        (f : Fault)
+        → Expected text (x .end) semicolon-sign (Err f)
+        → BodyRead text p b a (Err f)
     no-semicolon f e xs l =
         let v = h .2 xs l in
         let y = e (v .rest) (v .remains) in
@@ -137,28 +199,47 @@ module _ (text : List ℕ) (p : ℕ) (b a : Table) where
           rest = v .rest;
           there = y .1;
           halts = λ n. v .goes (whole n, refl) _ _
-            (subst (λ k. Halts (more any (whole n)) (v .rest) k (v .rest)) (sym (y .0)) (not-ended n (v .rest) (v .item .1) (y .2)));
+              (subst (λ k. Halts (more any (whole n)) (v .rest) k (v .rest)) (sym (y .0))
+                  (not-ended n (v .rest) (v .item .1) (y .2)));
         }
 
-    pub body-read : (e : ℕ) → Expected text (x .end) semicolon-sign (Ok e) → BodyRead text p b a (Ok (record { value = x .value; end = e }))
-    body-read e g = (omega (arith, h .0, g .0), g .1, λ xs l.
-        let v = h .2 xs l in
-        let y = g .2 (v .rest) (v .remains) in
-        let f = v .item .0 in
-        record {
-          rest = y .0;
-          remains = y .2;
-          goes = λ n k r q. v .goes (whole n, refl) k r (ends-line n (y .1) q);
-          item = body-item (x .value) (f .1) (f .2) (y .1);
-        })
+    pub body-read :
+        (e : ℕ)
+        → Expected text (x .end) semicolon-sign (Ok e)
+        → BodyRead text p b a (Ok (record { value = x .value; end = e }))
+    body-read e g = (
+      omega (arith, h .0, g .0),
+      g .1,
+      λ xs l.
+          let v = h .2 xs l in
+          let y = g .2 (v .rest) (v .remains) in
+          let f = v .item .0 in
+          record {
+            rest = y .0;
+            remains = y .2;
+            goes = λ n k r q. v .goes (whole n, refl) k r (ends-line n (y .1) q);
+            item = body-item (x .value) (f .1) (f .2) (y .1);
+          },
+    )
 
 -- Field lines
 
-field-item : {i : ℕ} {w : Word} {l h : Number} {xs r s t us : Tokens} → IsName xs r w → IsNumber r s l → IsNumber s t h → FirstIs semicolon-sign t us → IsField (at field i ∷ xs) us (field-line i w l h)
+field-item :
+    {i : ℕ} {w : Word} {l h : Number} {xs r s t us : Tokens}
+    → IsName xs r w
+    → IsNumber r s l
+    → IsNumber s t h
+    → FirstIs semicolon-sign t us
+    → IsField (at field i ∷ xs) us (field-line i w l h)
 field-item a-name a-number a-number (first-is is-semicolon) = a-field
 
-module _ (text : List ℕ) (p : ℕ) (w : Read WordEntry) (lo hi : Read NumberEntry) (h : NameRead text p (Ok w)) (g : NumberRead text (w .end) (Ok lo)) (k : NumberRead text (lo .end) (Ok hi)) where
-  pub field-stops : (i : ℕ) (b a : Table) (f : Fault) → Expected text (hi .end) semicolon-sign (Err f) → FieldRead text p i b a (Err f)
+module _
+    (text : List ℕ) (p : ℕ) (w : Read WordEntry) (lo hi : Read NumberEntry) (h : NameRead text p (Ok w))
+    (g : NumberRead text (w .end) (Ok lo)) (k : NumberRead text (lo .end) (Ok hi)) where
+  pub field-stops :
+      (i : ℕ) (b a : Table) (f : Fault)
+      → Expected text (hi .end) semicolon-sign (Err f)
+      → FieldRead text p i b a (Err f)
   field-stops i b a f e xs l =
       let v = h .2 xs l in
       let x = g .2 (v .rest) (v .remains) in
@@ -167,7 +248,8 @@ module _ (text : List ℕ) (p : ℕ) (w : Read WordEntry) (lo hi : Read NumberEn
       record {
         rest = s .rest;
         there = s .there;
-        halts = λ _. v .goes _ _ _ (x .goes _ _ _ (y .goes (expects semicolon-sign fields) _ _ (s .halts fields)));
+        halts =
+            λ _. v .goes _ _ _ (x .goes _ _ _ (y .goes (expects semicolon-sign fields) _ _ (s .halts fields)));
       }
 
   pub field-read :
@@ -175,21 +257,30 @@ module _ (text : List ℕ) (p : ℕ) (w : Read WordEntry) (lo hi : Read NumberEn
       → Expected text (hi .end) semicolon-sign (Ok e)
       → FieldKept b a (record { first = i; name = w .value; low = lo .value; high = hi .value })
       → FieldRead text p i b a (Ok e)
-  field-read i e b a q kept = (omega (arith, h .0, g .0, k .0, q .0), q .1, λ xs l.
-      let v = h .2 xs l in
-      let x = g .2 (v .rest) (v .remains) in
-      let y = k .2 (x .rest) (x .remains) in
-      let z = q .2 (y .rest) (y .remains) in
-      record {
-        rest = z .0;
-        remains = z .2;
-        goes = λ _ n r u. v .goes _ n r (x .goes _ n r (y .goes (expects semicolon-sign fields) n r (first-goes (z .1) u)));
-        item = (_, field-item (v .item) (x .item) (y .item) (z .1), λ fs u. kept text fs u);
-      })
+  field-read i e b a q kept = (
+    omega (arith, h .0, g .0, k .0, q .0),
+    q .1,
+    λ xs l.
+        let v = h .2 xs l in
+        let x = g .2 (v .rest) (v .remains) in
+        let y = k .2 (x .rest) (x .remains) in
+        let z = q .2 (y .rest) (y .remains) in
+        record {
+          rest = z .0;
+          remains = z .2;
+          goes =
+              λ _ n r u. v .goes _ n r (x .goes _ n r (y .goes (expects semicolon-sign fields) n r
+                  (first-goes (z .1) u)));
+          item = (_, field-item (v .item) (x .item) (y .item) (z .1), λ fs u. kept text fs u);
+        },
+  )
 
 -- Rule lines
 
-body-held : {text : List ℕ} {b a : Table} (part : Part) {f : Formula} → Entered text b a part f → BodyHeld text a (b .«node_count») part f
+body-held :
+    {text : List ℕ} {b a : Table} (part : Part) {f : Formula}
+    → Entered text b a part f
+    → BodyHeld text a (b .«node_count») part f
 body-held part e = record { sized = e .sized; joined = e .joined; held = e .held }
 
 rule-item :
@@ -199,18 +290,24 @@ rule-item :
     → HeadIs text head xs zs
     → BodyIs text b m part zs us
     → (f : Rule) × IsRule (at rule i ∷ xs) us f
-      × ((fs : List Field) (rs : List Rule) → Lines text b fs rs → Lines text a fs (rs ++ f ∷ []))
-rule-item {text} {a = a} i head part g kept (a-head all e few l) (a-body {f = f} r en) =
-    (rule-line i _ (map (word-of text) all) f, a-rule l r, λ fs rs h.
+    × ((fs : List Field) (rs : List Rule) → Lines text b fs rs → Lines text a fs (rs ++ f ∷ []))
+rule-item {text} {a = a} i head part g kept (a-head all e few l) (a-body {f = f} r en) = (
+  rule-line i _ (map (word-of text) all) f,
+  a-rule l r,
+  λ fs rs h.
       subst (λ w. Lines text a fs (rs ++ rule-line i w (map (word-of text) all) f ∷ [])) e
-      (kept text fs rs all f (lines-grown text g h) (g .grows) few (body-held part en)))
+      (kept text fs rs all f (lines-grown text g h) (g .grows) few (body-held part en)),
+)
 
 module _ (text : List ℕ) (p i : ℕ) (b : Table) where
   pub head-stops : (f : Fault) → HeadRead text p (Err f) → RuleRead text p i b b (Err f)
   head-stops f h = h
 
   module _ (hd : Read Head) (h : HeadRead text p (Ok hd)) where
-    pub body-stops : (m : Table) (f : Fault) → BodyRead text (hd .end) b m (Err f) → RuleRead text p i b b (Err f)
+    pub body-stops :
+        (m : Table) (f : Fault)
+        → BodyRead text (hd .end) b m (Err f)
+        → RuleRead text p i b b (Err f)
     body-stops m f k xs l =
         let v = h .2 xs l in
         let s = k (v .rest) (v .remains) in
@@ -222,19 +319,29 @@ module _ (text : List ℕ) (p i : ℕ) (b : Table) where
         → BodyRead text (hd .end) b m (Ok x)
         → RuleKept m a i (hd .value) (b .«node_count») (x .value)
         → RuleRead text p i b a (Ok (x .end))
-    rule-read x g k kept = (omega (arith, h .0, k .0), k .1, λ xs l.
-        let v = h .2 xs l in
-        let w = k .2 (v .rest) (v .remains) in
-        record {
-          rest = w .rest;
-          remains = w .remains;
-          goes = λ _ n r q. v .goes tt n r (w .goes of-rule n r q);
-          item = rule-item i (hd .value) (x .value) g kept (v .item) (w .item);
-        })
+    rule-read x g k kept = (
+      omega (arith, h .0, k .0),
+      k .1,
+      λ xs l.
+          let v = h .2 xs l in
+          let w = k .2 (v .rest) (v .remains) in
+          record {
+            rest = w .rest;
+            remains = w .remains;
+            goes = λ _ n r q. v .goes tt n r (w .goes of-rule n r q);
+            item = rule-item i (hd .value) (x .value) g kept (v .item) (w .item);
+          },
+    )
 
 -- The mark line
 
-not-a-rule : {text : List ℕ} {k : Class} {i : ℕ} {t : Tok} {n : Need} {u : State} → Move rules t n u → (t ≡ rule → ⊥) → (k ≡ class.Mark → ⊥) → Says text k t i → ⊥
+not-a-rule :
+    {text : List ℕ} {k : Class} {i : ℕ} {t : Tok} {n : Need} {u : State}
+    → Move rules t n u
+    → (t ≡ rule → ⊥)
+    → (k ≡ class.Mark → ⊥)
+    → Says text k t i
+    → ⊥
 not-a-rule line-rule y z s = y refl
 not-a-rule line-mark y z says-mark = z refl
 
@@ -245,17 +352,25 @@ mark-item :
     → BodyIs text b m part us zs
     → zs ≡ []
     → (f : Mark) × IsMark (at mark q ∷ us) [] f
-      × ((fs : List Field) (rs : List Rule) → Lines text b fs rs → Holds text a (sheet fs rs f))
-mark-item {text} q part {us} g kept (a-body {e = e} {f = f} r en) z =
-    (mark-line q f, a-mark (subst (λ v. Reads (formula any) 16 us (at semicolon e ∷ v) f) z r),
-      λ fs rs h. kept text fs rs f (lines-grown text g h) (body-held part en))
+    × ((fs : List Field) (rs : List Rule) → Lines text b fs rs → Holds text a (sheet fs rs f))
+mark-item {text} q part {us} g kept (a-body {e = e} {f = f} r en) z = (
+  mark-line q f,
+  a-mark (subst (λ v. Reads (formula any) 16 us (at semicolon e ∷ v) f) z r),
+  λ fs rs h. kept text fs rs f (lines-grown text g h) (body-held part en),
+)
 
 end-of : {text : List ℕ} {q e : ℕ} {xs : Tokens} → Seen text xs class.End q e → xs ≡ []
 end-of (no-token g) = refl
 end-of (a-token s l) = elim s [ ]
 
 module _ (text : List ℕ) (p : ℕ) (b : Table) (h : Ahead) (k : Peeked text p h) where
-  mark-stopped : {c : Class} {q e : ℕ} {xs : Tokens} (f : Fault) → f ≡ refused-at q → (c ≡ class.Mark → ⊥) → NotFirst rule xs → Seen text xs c q e → Stopped text (Unit {0}) (λ _. rules) xs f
+  mark-stopped :
+      {c : Class} {q e : ℕ} {xs : Tokens} (f : Fault)
+      → f ≡ refused-at q
+      → (c ≡ class.Mark → ⊥)
+      → NotFirst rule xs
+      → Seen text xs c q e
+      → Stopped text (Unit {0}) (λ _. rules) xs f
   mark-stopped f g z y (no-token n) = record {
     rest = [];
     there = ap (λ v. v .place) g ∙ n;
@@ -265,26 +380,50 @@ module _ (text : List ℕ) (p : ℕ) (b : Table) (h : Ahead) (k : Peeked text p 
     rest = at t q ∷ us;
     there = ap (λ v. v .place) g;
     halts = λ _. subst (λ v. Halts rules (at t q ∷ us) (table.number (v .refusal)) (at t q ∷ us)) (sym g)
-      (halts-token (λ n u m. not-a-rule m (λ e. y q us (ap (λ v. at v q ∷ us) e)) z s));
+        (halts-token (λ n u m. not-a-rule m (λ e. y q us (ap (λ v. at v q ∷ us) e)) z s));
   }
 
-  pub no-mark : (f : Fault) → f ≡ refused-at (h .place) → (h .class ≡ class.Mark → ⊥) → MarkRead text p b b (Err f)
+  pub no-mark :
+      (f : Fault)
+      → f ≡ refused-at (h .place)
+      → (h .class ≡ class.Mark → ⊥)
+      → MarkRead text p b b (Err f)
   no-mark f g z xs l y = mark-stopped f g z y (k .seen xs l)
 
   module _ (is : h .class ≡ class.Mark) where
-    mark-body-stopped : {q e : ℕ} {xs : Tokens} (f : Fault) → BodyRead text e b b (Err f) → Seen text xs class.Mark q e → Stopped text (Unit {0}) (λ _. rules) xs f
+    mark-body-stopped :
+        {q e : ℕ} {xs : Tokens} (f : Fault)
+        → BodyRead text e b b (Err f)
+        → Seen text xs class.Mark q e
+        → Stopped text (Unit {0}) (λ _. rules) xs f
     mark-body-stopped f o (a-token {xs = us} says-mark l) =
-        let s = o us l in record { rest = s .rest; there = s .there; halts = λ _. goes-on line-mark tt (s .halts of-mark) }
+        let s = o us l in
+        record {
+          rest = s .rest;
+          there = s .there;
+          halts = λ _. goes-on line-mark tt (s .halts of-mark);
+        }
 
     pub mark-body-stops : (f : Fault) → BodyRead text (h .end) b b (Err f) → MarkRead text p b b (Err f)
     mark-body-stops f o xs l y = mark-body-stopped f o (seen-as text p h k is xs l)
 
-    module _ {m : Table} (x : Read Part) (o : BodyRead text (h .end) b m (Ok x)) (g : Ahead) (u : Peeked text (x .end) g) where
-      after-end : {c : Class} {q e : ℕ} {zs : Tokens} → (c ≡ class.End → ⊥) → Seen text zs c q e → (q ≡ place-of (length text) zs) × Halts ended zs 4 zs
+    module _
+        {m : Table} (x : Read Part) (o : BodyRead text (h .end) b m (Ok x)) (g : Ahead)
+        (u : Peeked text (x .end) g) where
+      after-end :
+          {c : Class} {q e : ℕ} {zs : Tokens}
+          → (c ≡ class.End → ⊥)
+          → Seen text zs c q e
+          → (q ≡ place-of (length text) zs) × Halts ended zs 4 zs
       after-end z (no-token n) = absurd (z refl)
       after-end z (a-token s l) = (refl, halts-token (λ n u m. elim m [ ]))
 
-      more-stopped : {q : ℕ} {xs : Tokens} (f : Fault) → f ≡ refused-at (g .place) → (g .class ≡ class.End → ⊥) → Seen text xs class.Mark q (h .end) → Stopped text (Unit {0}) (λ _. rules) xs f
+      more-stopped :
+          {q : ℕ} {xs : Tokens} (f : Fault)
+          → f ≡ refused-at (g .place)
+          → (g .class ≡ class.End → ⊥)
+          → Seen text xs class.Mark q (h .end)
+          → Stopped text (Unit {0}) (λ _. rules) xs f
       more-stopped f e z (a-token {xs = us} says-mark l) =
           let v = o .2 us l in
           let y = after-end z (u .seen (v .rest) (v .remains)) in
@@ -292,10 +431,14 @@ module _ (text : List ℕ) (p : ℕ) (b : Table) (h : Ahead) (k : Peeked text p 
             rest = v .rest;
             there = ap (λ w. w .place) e ∙ y .0;
             halts = λ _. goes-on line-mark tt (v .goes of-mark _ _
-              (subst (λ w. Halts ended (v .rest) (table.number (w .refusal)) (v .rest)) (sym e) (y .1)));
+                (subst (λ w. Halts ended (v .rest) (table.number (w .refusal)) (v .rest)) (sym e) (y .1)));
           }
 
-      pub more-stops : (f : Fault) → f ≡ refused-at (g .place) → (g .class ≡ class.End → ⊥) → MarkRead text p b b (Err f)
+      pub more-stops :
+          (f : Fault)
+          → f ≡ refused-at (g .place)
+          → (g .class ≡ class.End → ⊥)
+          → MarkRead text p b b (Err f)
       more-stops f e z xs l y = more-stopped f e z (seen-as text p h k is xs l)
 
       mark-came :
@@ -305,7 +448,7 @@ module _ (text : List ℕ) (p : ℕ) (b : Table) (h : Ahead) (k : Peeked text p 
           → g .class ≡ class.End
           → Seen text xs class.Mark q (h .end)
           → (f : Mark) × IsMark xs [] f
-            × ((fs : List Field) (rs : List Rule) → Lines text b fs rs → Holds text a (sheet fs rs f))
+          × ((fs : List Field) (rs : List Rule) → Lines text b fs rs → Holds text a (sheet fs rs f))
       mark-came gr kept e (a-token {p = q} {xs = us} says-mark l) =
           let v = o .2 us l in
           mark-item q (x .value) gr kept (v .item) (end-of (seen-as text (x .end) g u e (v .rest) (v .remains)))
@@ -317,5 +460,5 @@ module _ (text : List ℕ) (p : ℕ) (b : Table) (h : Ahead) (k : Peeked text p 
           → g .class ≡ class.End
           → (xs : Tokens) → Left text p xs
           → (f : Mark) × IsMark xs [] f
-            × ((fs : List Field) (rs : List Rule) → Lines text b fs rs → Holds text a (sheet fs rs f))
+          × ((fs : List Field) (rs : List Rule) → Lines text b fs rs → Holds text a (sheet fs rs f))
       mark-read gr kept e xs l = mark-came gr kept e (seen-as text p h k is xs l)

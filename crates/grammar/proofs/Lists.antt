@@ -12,7 +12,9 @@ module _ (X : Type 0) (list : Few X) (x : X) (all : List X) (h : Holds4 X list a
   longer : length (all ++ x ∷ []) ≡ length all + 1
   longer = length-append all (x ∷ [])
 
-  kept : list .count < 4 → Holds4 X (record { items = set (list .items) (list .count) x; count = list .count + 1 }) (all ++ x ∷ [])
+  kept :
+      list .count < 4
+      → Holds4 X (record { items = set (list .items) (list .count) x; count = list .count + 1 }) (all ++ x ∷ [])
   kept lt =
       let c = h .counts in
       let r = h .room in
@@ -21,12 +23,14 @@ module _ (X : Type 0) (list : Few X) (x : X) (all : List X) (h : Holds4 X list a
         room = length-set (list .items) (list .count) x ∙ r;
         counts = omega arith;
         holds =
-          take-more-set (list .items) (list .count) x (omega arith)
-          ∙ ap (λ l. l ++ x ∷ []) (h .holds ∙ take-all 4 all (omega arith))
-          ∙ sym (take-all 4 (all ++ x ∷ []) (omega arith));
+            take-more-set (list .items) (list .count) x (omega arith)
+            ∙ ap (λ l. l ++ x ∷ []) (h .holds ∙ take-all 4 all (omega arith))
+            ∙ sym (take-all 4 (all ++ x ∷ []) (omega arith));
       }
 
-  counted : 4 ≤ list .count → Holds4 X (record { items = list .items; count = list .count + 1 }) (all ++ x ∷ [])
+  counted :
+      4 ≤ list .count
+      → Holds4 X (record { items = list .items; count = list .count + 1 }) (all ++ x ∷ [])
   counted le =
       let c = h .counts in
       let r = h .room in
@@ -35,10 +39,10 @@ module _ (X : Type 0) (list : Few X) (x : X) (all : List X) (h : Holds4 X list a
         room = r;
         counts = omega arith;
         holds =
-          take-all (list .count + 1) (list .items) (omega arith)
-          ∙ sym (take-all (list .count) (list .items) (omega arith))
-          ∙ h .holds
-          ∙ sym (take-append-le 4 all (x ∷ []) (omega arith));
+            take-all (list .count + 1) (list .items) (omega arith)
+            ∙ sym (take-all (list .count) (list .items) (omega arith))
+            ∙ h .holds
+            ∙ sym (take-append-le 4 all (x ∷ []) (omega arith));
       }
 
 pub kept-more :
@@ -49,7 +53,8 @@ pub kept-more :
     → Holds4 X list all
     → Holds4 X (record { items = now .items; count = now .count + 1 }) (all ++ x ∷ [])
 kept-more X list now x lt e all h =
-    subst (λ l. Holds4 X (record { items = l .items; count = l .count + 1 }) (all ++ x ∷ [])) (sym e) (kept X list x all h lt)
+    subst (λ l. Holds4 X (record { items = l .items; count = l .count + 1 }) (all ++ x ∷ [])) (sym e)
+        (kept X list x all h lt)
 
 pub counted-more :
     (X : Type 0) (list now : Few X) (x : X)
@@ -59,4 +64,5 @@ pub counted-more :
     → Holds4 X list all
     → Holds4 X (record { items = now .items; count = now .count + 1 }) (all ++ x ∷ [])
 counted-more X list now x le e all h =
-    subst (λ l. Holds4 X (record { items = l .items; count = l .count + 1 }) (all ++ x ∷ [])) (sym e) (counted X list x all h le)
+    subst (λ l. Holds4 X (record { items = l .items; count = l .count + 1 }) (all ++ x ∷ [])) (sym e)
+        (counted X list x all h le)

@@ -85,13 +85,13 @@ module _ (A : Type 0) (Item : Tokens → Tokens → A → Type 0) (once : Once A
   parted-once (last i) (next j l) = let o = once _ _ _ _ _ i j tt tt in let x = o .0 in absurd (no (cc))
   parted-once (next i k) (last j) = let o = once _ _ _ _ _ i j tt tt in let x = o .0 in absurd (no (cc))
   parted-once (next {ys = ys} i k) (next {ys = zs} {r = r} {bs = bs} j l) =
-    let o = once _ _ _ _ _ i j tt tt in
-    let x = o .0 in
-    let e : zs ≡ ys = cc in
-    let m = parted-once k (subst (λ z. Parted A Item z r bs) e l) in
-    let y = o .1 in
-    let z = m .1 in
-    (m .0, cc)
+      let o = once _ _ _ _ _ i j tt tt in
+      let x = o .0 in
+      let e : zs ≡ ys = cc in
+      let m = parted-once k (subst (λ z. Parted A Item z r bs) e l) in
+      let y = o .1 in
+      let z = m .1 in
+      (m .0, cc)
 
   no-parted : {p : ℕ} {r s : Tokens} {a : List A} → Parted A Item (at closing p ∷ r) s a → ⊥
   no-parted (last i) = no-closing _ _ _ _ i
@@ -189,11 +189,11 @@ module _ (A : Type 0) (Item : Tokens → Tokens → A → Type 0) (E : Class →
   many-once done (line i m) e f = absurd (begins _ _ _ i e)
   many-once (line i m) done e f = absurd (begins _ _ _ i f)
   many-once (line {ys = ys} i m) (line {ys = zs} {r = r} {bs = bs} j n) e f =
-    let o = once _ _ _ _ _ i j in
-    let q = many-once m (subst (λ z. Many A Item z r bs) (sym (o .0)) n) e f in
-    let y = o .1 in
-    let z = q .1 in
-    (q .0, cc)
+      let o = once _ _ _ _ _ i j in
+      let q = many-once m (subst (λ z. Many A Item z r bs) (sym (o .0)) n) e f in
+      let y = o .1 in
+      let z = q .1 in
+      (q .0, cc)
 
 field-once : {xs r s : Tokens} {a b : Field} → IsField xs r a → IsField xs s b → (r ≡ s) × (a ≡ b)
 field-once a-field a-field = (refl, refl)

@@ -38,6 +38,8 @@ use Rattle.grammar.specs.Parsing.{Left, left, Says, says-field, says-rule, See
 use Rattle.grammar.proofs.Next.{not-field}
 use Rattle.grammar.proofs.Leaves.{no, refused-at, Stuck, stops, real, seen-as}
 use Rattle.grammar.proofs.Verdict.{refused}
+use Rattle.grammar.proofs.WellRead.{well-read}
+use Rattle.grammar.proofs.Places.{rises, small}
 
 -- The first line
 
@@ -46,26 +48,53 @@ first-came :
     → FieldRead text e i b a (Ok q)
     → Seen text xs class.Field i e
     → Came text (Unit {0}) (λ _. start) (λ _. fields) xs q (λ us.
-        (f : Field) × IsField xs us f × ((fs : List Field) → Lines text b fs [] → Lines text a (fs ++ f ∷ []) []))
+    (f : Field) × IsField xs us f × ((fs : List Field) → Lines text b fs [] → Lines text a (fs ++ f ∷ []) []))
 first-came h (a-token {xs = us} says-field l) =
     let v = h .2 us l in
-    record { rest = v .rest; remains = v .remains; goes = λ _ n r k. goes-on (asked is-field) tt (v .goes tt n r k); item = v .item }
+    record {
+      rest = v .rest;
+      remains = v .remains;
+      goes = λ _ n r k. goes-on (asked is-field) tt (v .goes tt n r k);
+      item = v .item;
+    }
 
-first-stopped : {text : List ℕ} (b a : Table) {i e : ℕ} {xs : Tokens} {f : Fault} → FieldRead text e i b a (Err f) → Seen text xs class.Field i e → Stopped text (Unit {0}) (λ _. start) xs f
+first-stopped :
+    {text : List ℕ} (b a : Table) {i e : ℕ} {xs : Tokens} {f : Fault}
+    → FieldRead text e i b a (Err f)
+    → Seen text xs class.Field i e
+    → Stopped text (Unit {0}) (λ _. start) xs f
 first-stopped b a h (a-token {xs = us} says-field l) =
-    let s = h us l in record { rest = s .rest; there = s .there; halts = λ _. goes-on (asked is-field) tt (s .halts tt) }
+    let s = h us l in
+    record {
+      rest = s .rest;
+      there = s .there;
+      halts = λ _. goes-on (asked is-field) tt (s .halts tt);
+    }
 
-no-first : {text : List ℕ} {k : Class} {s u : State} {t : Tok} {i : ℕ} {n : Need} → (k ≡ class.Field → ⊥) → Move (expects field-word s) t n u → Says text k t i → ⊥
+no-first :
+    {text : List ℕ} {k : Class} {s u : State} {t : Tok} {i : ℕ} {n : Need}
+    → (k ≡ class.Field → ⊥)
+    → Move (expects field-word s) t n u
+    → Says text k t i
+    → ⊥
 no-first z (asked is-field) says-field = z refl
 
 module _ (text : List ℕ) (h : Ahead) (k : Peeked text 0 h) where
-  pub first-read : (b a : Table) (r : Result ℕ Fault) → h .class ≡ class.Field → FieldRead text (h .end) (h .place) b a r → FirstRead text b a r
+  pub first-read :
+      (b a : Table) (r : Result ℕ Fault)
+      → h .class ≡ class.Field
+      → FieldRead text (h .end) (h .place) b a r
+      → FirstRead text b a r
   first-read b a (Ok q) is o =
       let g = real text 0 h k (λ e. no (cc)) in
       (omega (arith, g .0, o .0), o .1, λ xs l. first-came o (seen-as text 0 h k is xs l))
   first-read b a (Err f) is o = λ xs l. first-stopped b a o (seen-as text 0 h k is xs l)
 
-  pub first-stops : (b : Table) (f : Fault) → f ≡ refused-at (h .place) → (h .class ≡ class.Field → ⊥) → FirstRead text b b (Err f)
+  pub first-stops :
+      (b : Table) (f : Fault)
+      → f ≡ refused-at (h .place)
+      → (h .class ≡ class.Field → ⊥)
+      → FirstRead text b b (Err f)
   first-stops b f e z xs l = stops (λ _. start) f e (h-seen xs l) (λ c. tt) (λ c t i n u m s. no-first z m s)
     where
       h-seen : (xs : Tokens) → Left text 0 xs → Seen text xs (h .class) (h .place) (h .end)
@@ -73,33 +102,53 @@ module _ (text : List ℕ) (h : Ahead) (k : Peeked text 0 h) where
 
 -- Lines of one kind, one after another
 
-many-more : {A : Type 0} {Item : Tokens → Tokens → A → Type 0} {xs us zs : Tokens} {bs : List A} {a : A} → Many A Item xs us bs → Item us zs a → Many A Item xs zs (bs ++ a ∷ [])
+many-more :
+    {A : Type 0} {Item : Tokens → Tokens → A → Type 0} {xs us zs : Tokens} {bs : List A} {a : A}
+    → Many A Item xs us bs
+    → Item us zs a
+    → Many A Item xs zs (bs ++ a ∷ [])
 many-more done i = line i done
 many-more (line j m) i = line j (many-more m i)
 
 -- the lines of a class, from the state s on
-not-begun : {text : List ℕ} {k : Class} {q e i : ℕ} {xs : Tokens} → (k ≡ class.Field → ⊥) → Seen text (at field i ∷ xs) k q e → ⊥
+not-begun :
+    {text : List ℕ} {k : Class} {q e i : ℕ} {xs : Tokens}
+    → (k ≡ class.Field → ⊥)
+    → Seen text (at field i ∷ xs) k q e
+    → ⊥
 not-begun z (a-token says-field l) = z refl
 
-not-ruled : {text : List ℕ} {k : Class} {q e i : ℕ} {xs : Tokens} → (k ≡ class.Rule → ⊥) → Seen text (at rule i ∷ xs) k q e → ⊥
+not-ruled :
+    {text : List ℕ} {k : Class} {q e i : ℕ} {xs : Tokens}
+    → (k ≡ class.Rule → ⊥)
+    → Seen text (at rule i ∷ xs) k q e
+    → ⊥
 not-ruled z (a-token says-rule l) = z refl
 
 module _ (text : List ℕ) (p : ℕ) (b : Table) where
   pub fields-none : p ≤ length text → FieldsSoFar text p b b p
-  fields-none le = (omega arith, le, λ xs l. record {
-    rest = xs;
-    remains = l;
-    goes = λ _ n r k. k;
-    item = ([], done, λ gs h. subst (λ z. Lines text b z []) (sym (append-nil gs)) h);
-  })
+  fields-none le = (
+    omega arith,
+    le,
+    λ xs l. record {
+      rest = xs;
+      remains = l;
+      goes = λ _ n r k. k;
+      item = ([], done, λ gs h. subst (λ z. Lines text b z []) (sym (append-nil gs)) h);
+    },
+  )
 
   pub rules-none : p ≤ length text → RulesSoFar text p b b p
-  rules-none le = (omega arith, le, λ xs l. record {
-    rest = xs;
-    remains = l;
-    goes = λ _ n r k. k;
-    item = ([], done, λ fs ps h. subst (λ z. Lines text b fs z) (sym (append-nil ps)) h);
-  })
+  rules-none le = (
+    omega arith,
+    le,
+    λ xs l. record {
+      rest = xs;
+      remains = l;
+      goes = λ _ n r k. k;
+      item = ([], done, λ fs ps h. subst (λ z. Lines text b fs z) (sym (append-nil ps)) h);
+    },
+  )
 
   module _ (t : Table) (q : ℕ) (h : Ahead) (k : Peeked text q h) where
     field-more :
@@ -110,7 +159,8 @@ module _ (text : List ℕ) (p : ℕ) (b : Table) where
         → FieldRead text e i t a (Ok g)
         → Seen text us class.Field i e
         → Came text (Unit {0}) (λ _. fields) (λ _. fields) xs g (λ us.
-            (fs : List Field) × Many Field IsField xs us fs × ((gs : List Field) → Lines text b gs [] → Lines text a (gs ++ fs) []))
+        (fs : List Field) × Many Field IsField xs us fs ×
+            ((gs : List Field) → Lines text b gs [] → Lines text a (gs ++ fs) []))
     field-more {a} {fs = fs} go m keep o (a-token {xs = zs} says-field l) =
         let v = o .2 zs l in
         let f = v .item in
@@ -118,8 +168,12 @@ module _ (text : List ℕ) (p : ℕ) (b : Table) where
           rest = v .rest;
           remains = v .remains;
           goes = λ _ n r z. go n r (goes-on line-field tt (v .goes tt n r z));
-          item = (fs ++ f .0 ∷ [], many-more m (f .1), λ gs z.
-            subst (λ y. Lines text a y []) (append-assoc gs fs (f .0 ∷ [])) (f .2 (gs ++ fs) (keep gs z)));
+          item = (
+            fs ++ f .0 ∷ [],
+            many-more m (f .1),
+            λ gs z.
+                subst (λ y. Lines text a y []) (append-assoc gs fs (f .0 ∷ [])) (f .2 (gs ++ fs) (keep gs z)),
+          );
         }
 
     pub fields-more :
@@ -129,20 +183,41 @@ module _ (text : List ℕ) (p : ℕ) (b : Table) where
         → FieldRead text (h .end) (h .place) t a (Ok g)
         → FieldsSoFar text p b a g
     fields-more g s is o =
-        let r = real text q h k (λ e. no (cc)) in
-        (omega (arith, s .0, r .0, o .0), o .1, λ xs l.
-          let v = s .2 xs l in
-          let f = v .item in
-          field-more (λ n r z. v .goes tt n r z) (f .1) (f .2) o (seen-as text q h k is (v .rest) (v .remains)))
+        let r = real text q h k (λ e. no (cc)) in (
+          omega (arith, s .0, r .0, o .0),
+          o .1,
+          λ xs l.
+              let v = s .2 xs l in
+              let f = v .item in
+              field-more (λ n r z. v .goes tt n r z) (f .1) (f .2) o
+                  (seen-as text q h k is (v .rest) (v .remains)),
+        )
 
     pub fields-end : FieldsSoFar text p b t q → (h .class ≡ class.Field → ⊥) → FieldsRead text p b t (Ok q)
-    fields-end s z = (s, λ xs l i ys e. not-begun z (subst (λ v. Seen text v (h .class) (h .place) (h .end)) e (k .seen xs l)))
+    fields-end s z =
+        (s, λ xs l i ys e. not-begun z (subst (λ v. Seen text v (h .class) (h .place) (h .end)) e
+            (k .seen xs l)))
 
-    field-stop : {i e : ℕ} {xs us : Tokens} {f : Fault} → ((n : ℕ) (r : Tokens) → Halts fields us n r → Halts fields xs n r) → FieldRead text e i t t (Err f) → Seen text us class.Field i e → Stopped text (Unit {0}) (λ _. fields) xs f
+    field-stop :
+        {i e : ℕ} {xs us : Tokens} {f : Fault}
+        → ((n : ℕ) (r : Tokens) → Halts fields us n r → Halts fields xs n r)
+        → FieldRead text e i t t (Err f)
+        → Seen text us class.Field i e
+        → Stopped text (Unit {0}) (λ _. fields) xs f
     field-stop go o (a-token {xs = zs} says-field l) =
-        let s = o zs l in record { rest = s .rest; there = s .there; halts = λ _. go _ _ (goes-on line-field tt (s .halts tt)) }
+        let s = o zs l in
+        record {
+          rest = s .rest;
+          there = s .there;
+          halts = λ _. go _ _ (goes-on line-field tt (s .halts tt));
+        }
 
-    pub fields-stop : (f : Fault) → FieldsSoFar text p b t q → h .class ≡ class.Field → FieldRead text (h .end) (h .place) t t (Err f) → FieldsRead text p b b (Err f)
+    pub fields-stop :
+        (f : Fault)
+        → FieldsSoFar text p b t q
+        → h .class ≡ class.Field
+        → FieldRead text (h .end) (h .place) t t (Err f)
+        → FieldsRead text p b b (Err f)
     fields-stop f s is o xs l =
         let v = s .2 xs l in
         field-stop (λ n r z. v .goes tt n r z) o (seen-as text q h k is (v .rest) (v .remains))
@@ -155,8 +230,8 @@ module _ (text : List ℕ) (p : ℕ) (b : Table) where
         → RuleRead text e i t a (Ok g)
         → Seen text us class.Rule i e
         → Came text (Unit {0}) (λ _. rules) (λ _. rules) xs g (λ us.
-            (rs : List Rule) × Many Rule IsRule xs us rs
-            × ((fs : List Field) (ps : List Rule) → Lines text b fs ps → Lines text a fs (ps ++ rs)))
+        (rs : List Rule) × Many Rule IsRule xs us rs
+        × ((fs : List Field) (ps : List Rule) → Lines text b fs ps → Lines text a fs (ps ++ rs)))
     rule-more {a} {rs = rs} go m keep o (a-token {xs = zs} says-rule l) =
         let v = o .2 zs l in
         let f = v .item in
@@ -164,8 +239,13 @@ module _ (text : List ℕ) (p : ℕ) (b : Table) where
           rest = v .rest;
           remains = v .remains;
           goes = λ _ n r z. go n r (goes-on line-rule tt (v .goes tt n r z));
-          item = (rs ++ f .0 ∷ [], many-more m (f .1), λ fs ps z.
-            subst (λ y. Lines text a fs y) (append-assoc ps rs (f .0 ∷ [])) (f .2 fs (ps ++ rs) (keep fs ps z)));
+          item = (
+            rs ++ f .0 ∷ [],
+            many-more m (f .1),
+            λ fs ps z.
+                subst (λ y. Lines text a fs y) (append-assoc ps rs (f .0 ∷ []))
+                    (f .2 fs (ps ++ rs) (keep fs ps z)),
+          );
         }
 
     pub rules-more :
@@ -175,20 +255,41 @@ module _ (text : List ℕ) (p : ℕ) (b : Table) where
         → RuleRead text (h .end) (h .place) t a (Ok g)
         → RulesSoFar text p b a g
     rules-more g s is o =
-        let r = real text q h k (λ e. no (cc)) in
-        (omega (arith, s .0, r .0, o .0), o .1, λ xs l.
-          let v = s .2 xs l in
-          let f = v .item in
-          rule-more (λ n r z. v .goes tt n r z) (f .1) (f .2) o (seen-as text q h k is (v .rest) (v .remains)))
+        let r = real text q h k (λ e. no (cc)) in (
+          omega (arith, s .0, r .0, o .0),
+          o .1,
+          λ xs l.
+              let v = s .2 xs l in
+              let f = v .item in
+              rule-more (λ n r z. v .goes tt n r z) (f .1) (f .2) o
+                  (seen-as text q h k is (v .rest) (v .remains)),
+        )
 
     pub rules-end : RulesSoFar text p b t q → (h .class ≡ class.Rule → ⊥) → RulesRead text p b t (Ok q)
-    rules-end s z = (s, λ xs l i ys e. not-ruled z (subst (λ v. Seen text v (h .class) (h .place) (h .end)) e (k .seen xs l)))
+    rules-end s z =
+        (s, λ xs l i ys e. not-ruled z (subst (λ v. Seen text v (h .class) (h .place) (h .end)) e
+            (k .seen xs l)))
 
-    rule-stop : {i e : ℕ} {xs us : Tokens} {f : Fault} → ((n : ℕ) (r : Tokens) → Halts rules us n r → Halts rules xs n r) → RuleRead text e i t t (Err f) → Seen text us class.Rule i e → Stopped text (Unit {0}) (λ _. rules) xs f
+    rule-stop :
+        {i e : ℕ} {xs us : Tokens} {f : Fault}
+        → ((n : ℕ) (r : Tokens) → Halts rules us n r → Halts rules xs n r)
+        → RuleRead text e i t t (Err f)
+        → Seen text us class.Rule i e
+        → Stopped text (Unit {0}) (λ _. rules) xs f
     rule-stop go o (a-token {xs = zs} says-rule l) =
-        let s = o zs l in record { rest = s .rest; there = s .there; halts = λ _. go _ _ (goes-on line-rule tt (s .halts tt)) }
+        let s = o zs l in
+        record {
+          rest = s .rest;
+          there = s .there;
+          halts = λ _. go _ _ (goes-on line-rule tt (s .halts tt));
+        }
 
-    pub rules-stop : (f : Fault) → RulesSoFar text p b t q → h .class ≡ class.Rule → RuleRead text (h .end) (h .place) t t (Err f) → RulesRead text p b b (Err f)
+    pub rules-stop :
+        (f : Fault)
+        → RulesSoFar text p b t q
+        → h .class ≡ class.Rule
+        → RuleRead text (h .end) (h .place) t t (Err f)
+        → RulesRead text p b b (Err f)
     rules-stop f s is o xs l =
         let v = s .2 xs l in
         rule-stop (λ n r z. v .goes tt n r z) o (seen-as text q h k is (v .rest) (v .remains))
@@ -198,7 +299,8 @@ module _ (text : List ℕ) (p : ℕ) (b : Table) where
 -- where no field line stands, rule lines or the mark line are due
 halts-fields : {n : ℕ} {xs r : Tokens} → NotFirst field xs → Halts rules xs n r → Halts fields xs n r
 halts-fields z (goes-on m a h) = goes-on (no-field m) a h
-halts-fields z (halts-token {t = t} {p = p} {xs = xs} h) = halts-token (λ n u m. not-field (λ i. not-this i z) h m)
+halts-fields z (halts-token {t =
+    t} {p = p} {xs = xs} h) = halts-token (λ n u m. not-field (λ i. not-this i z) h m)
   where
     not-this : {t : Tok} → Is field-word t → NotFirst field (at t p ∷ xs) → ⊥
     not-this is-field z = z p xs refl
@@ -207,10 +309,14 @@ halts-fields z (halts-mixed m e) = halts-mixed (no-field m) e
 halts-fields z (halts-end h) = halts-end tt
 
 -- where the lines of a sheet halt, its tokens are refused
-refuses : {text : List ℕ} {f : Fault} → ((xs : Tokens) → Left text 0 xs → Stopped text (Unit {0}) (λ _. start) xs f) → Parsed text (Err f)
+refuses :
+    {text : List ℕ} {f : Fault}
+    → ((xs : Tokens) → Left text 0 xs → Stopped text (Unit {0}) (λ _. start) xs f)
+    → Parsed text (Err f)
 refuses {text} {f} h ts cut =
     let s = h (tokens ts) (left cut) in
-    subst (Refused (tokens ts) (length text) (table.number (f .refusal))) (sym (s .there)) (refused (length text) (s .halts tt))
+    subst (Refused (tokens ts) (length text) (table.number (f .refusal))) (sym (s .there))
+        (refused (length text) (s .halts tt))
 
 module _ (text : List ℕ) (b : Table) where
   pub parse-first : (f : Fault) → FirstRead text b b (Err f) → Parsed text (Err f)
@@ -232,7 +338,8 @@ module _ (text : List ℕ) (b : Table) where
           record {
             rest = s .rest;
             there = s .there;
-            halts = λ _. v .goes tt _ _ (u .goes tt _ _ (halts-fields (g .1 (u .rest) (u .remains)) (s .halts tt)));
+            halts =
+                λ _. v .goes tt _ _ (u .goes tt _ _ (halts-fields (g .1 (u .rest) (u .remains)) (s .halts tt)));
           })
 
       module _ (r : ℕ) (d : Table) (w : RulesRead text q c d (Ok r)) where
@@ -245,7 +352,9 @@ module _ (text : List ℕ) (b : Table) where
             record {
               rest = s .rest;
               there = s .there;
-              halts = λ _. v .goes tt _ _ (u .goes tt _ _ (halts-fields (g .1 (u .rest) (u .remains)) (y .goes tt _ _ (s .halts tt))));
+              halts =
+                  λ _. v .goes tt _ _ (u .goes tt _ _ (halts-fields (g .1 (u .rest) (u .remains))
+                      (y .goes tt _ _ (s .halts tt))));
             })
 
         parsed-ok :
@@ -264,8 +373,13 @@ module _ (text : List ℕ) (b : Table) where
             let fs = u .item in
             let rs = y .item in
             let blank : Lines text b [] [] = all-kept o (subst (LinesAbove text b [] []) (sym z) n) in
-            (sheet (f .0 ∷ fs .0) (rs .0) (m .0), a-sheet (f .1) (fs .1) (rs .1) (m .1),
-              m .2 (f .0 ∷ fs .0) (rs .0) (rs .2 (f .0 ∷ fs .0) [] (fs .2 (f .0 ∷ []) (f .2 [] blank))))
+            let s = sheet (f .0 ∷ fs .0) (rs .0) (m .0) in
+            let d : IsSheet (tokens ts) s = a-sheet (f .1) (fs .1) (rs .1) (m .1) in (
+              s,
+              d,
+              m .2 (f .0 ∷ fs .0) (rs .0) (rs .2 (f .0 ∷ fs .0) [] (fs .2 (f .0 ∷ []) (f .2 [] blank))),
+              well-read (tokens ts) s d (rises cut .1) (small cut),
+            )
 
         pub parsed :
             (e : Table) (x : Result (Unit {0}) Fault)

@@ -48,7 +48,8 @@ finished accepted h = h
 module _ {L : Limits} {before : Tokens} {s : State} (w : Path L start before s) where
   -- where a path ends, a sheet can go on
   begins : Begins L before
-  begins = let v = way L s in let z = sheet-of L (before ++ v .0) (path-accepts w (v .1)) in (v .0, z .0, z .1)
+  begins =
+      let v = way L s in let z = sheet-of L (before ++ v .0) (path-accepts w (v .1)) in (v .0, z .0, z .1)
 
   -- and with a token that moves it
   stands : {t : Tok} {n : Need} {u : State} → Move s t n u → Allowed L n → Stands L before t
@@ -62,13 +63,25 @@ module _ {L : Limits} {before : Tokens} {s : State} (w : Path L start before s) 
   moved v = first-move (accepts-after w (sheet-taken (v .3)))
 
 -- a level that cannot be opened, or a join that mixes
-too-deep-at : {before : Tokens} {s u : State} {t : Tok} {d : ℕ} → Path strict start before s → Move s t (level d) u → d ≡ 0 → Stands strict before t → ⊥
+too-deep-at :
+    {before : Tokens} {s u : State} {t : Tok} {d : ℕ}
+    → Path strict start before s
+    → Move s t (level d) u
+    → d ≡ 0
+    → Stands strict before t
+    → ⊥
 too-deep-at w m e v =
     let k = moved w v in
     let h = subst (Allowed strict) (move-once (k .2) m .0) (k .3) in
     omega (arith, h, e)
 
-mixes-at : {before : Tokens} {s u : State} {t : Tok} {l : Level} {j : Join} → Path strict start before s → Move s t (like l j) u → (Fits strict l j → ⊥) → Stands strict before t → ⊥
+mixes-at :
+    {before : Tokens} {s u : State} {t : Tok} {l : Level} {j : Join}
+    → Path strict start before s
+    → Move s t (like l j) u
+    → (Fits strict l j → ⊥)
+    → Stands strict before t
+    → ⊥
 mixes-at w m g v =
     let k = moved w v in
     g (subst (Allowed strict) (move-once (k .2) m .0) (k .3))
@@ -91,7 +104,8 @@ refused-from before size w (halts-mixed {xs = xs} {j = j} m g) =
     at-token before xs refl (begins w) (mixes-at w m g) (mixes j (joins m) (stands (path-loosely w) m tt))
 refused-from before size w (halts-end h) =
     subst (λ z. Refused z size 4 size) (sym (append-nil before))
-    (at-end (begins w) (λ s d. finished (accepts-after w (subst (Accepts strict start) (sym (append-nil before)) (sheet-taken d))) h))
+    (at-end (begins w) (λ s d. finished (accepts-after w
+        (subst (Accepts strict start) (sym (append-nil before)) (sheet-taken d))) h))
 
 pub refused : {k : ℕ} {xs r : Tokens} (size : ℕ) → Halts start xs k r → Refused xs size k (place-of size r)
 refused size h = refused-from [] size here h
@@ -103,20 +117,34 @@ no z = omega arith
 abbrev Run : State → Tokens → Type 0
 Run s xs = Accepts strict s xs ⊎ ((k : ℕ) × (r : Tokens) × Halts s xs k r)
 
-run-on : {s u : State} {t : Tok} {n : Need} {xs : Tokens} (p : ℕ) → Move s t n u → Allowed strict n → Run u xs → Run s (at t p ∷ xs)
+run-on :
+    {s u : State} {t : Tok} {n : Need} {xs : Tokens} (p : ℕ)
+    → Move s t n u
+    → Allowed strict n
+    → Run u xs
+    → Run s (at t p ∷ xs)
 run-on p m h (inl a) = inl (takes m h a)
 run-on p m h (inr b) = inr (b .0, b .1, goes-on m h (b .2))
 
-run-if : {s u : State} {t : Tok} {xs : Tokens} (p : ℕ) (n : Need) → Move s t n u → Run u xs → Run s (at t p ∷ xs)
+run-if :
+    {s u : State} {t : Tok} {xs : Tokens} (p : ℕ) (n : Need)
+    → Move s t n u
+    → Run u xs
+    → Run s (at t p ∷ xs)
 run-if p free m a = run-on p m tt a
-run-if p (level d) m a = elim (eq-zero-or-pos d) [ inl e ↦ inr (5, _, halts-deep m e) | inr h ↦ run-on p m h a ]
+run-if p (level d) m a =
+    elim (eq-zero-or-pos d) [ inl e ↦ inr (5, _, halts-deep m e) | inr h ↦ run-on p m h a ]
 run-if p (like any j) m a = run-on p m tt a
 run-if p (like (only And) And) m a = run-on p m refl a
 run-if p (like (only And) Or) m a = inr (6, _, halts-mixed m (λ e. no (cc)))
 run-if p (like (only Or) And) m a = inr (6, _, halts-mixed m (λ e. no (cc)))
 run-if p (like (only Or) Or) m a = run-on p m refl a
 
-run-at : {s : State} {t : Tok} (p : ℕ) (xs : Tokens) → Next s t → ((u : State) → Run u xs) → Run s (at t p ∷ xs)
+run-at :
+    {s : State} {t : Tok} (p : ℕ) (xs : Tokens)
+    → Next s t
+    → ((u : State) → Run u xs)
+    → Run s (at t p ∷ xs)
 run-at p xs (moves {n = n} m) a = run-if p n m (a _)
 run-at p xs (stays h) a = inr (4, _, halts-token h)
 
@@ -144,17 +172,24 @@ run s (at t p ∷ xs) = run-at p xs (next-of s t) (λ u. run u xs)
 some-verdict : Some-verdict
 some-verdict xs size =
     elim (run start xs) [
-      inl a ↦ inl (sheet-of strict xs a)
-      | inr h ↦ inr (h .0, place-of size (h .1), refused size (h .2)) ]
+      | inl a ↦ inl (sheet-of strict xs a)
+      | inr h ↦ inr (h .0, place-of size (h .1), refused size (h .2))
+    ]
 
 not-both : Not-both
-not-both xs size n p s d (at-token {p = q} before after e b h w) = h (q, after, s, subst (λ z. IsSheet z s) e d)
+not-both xs size n p s d (at-token {p =
+    q} before after e b h w) = h (q, after, s, subst (λ z. IsSheet z s) e d)
 not-both xs size n p s d (at-end b h) = h s d
 
 -- what begins a sheet, with a token after some of it
-begins-over : {xs : Tokens} (t : Tok) (p : ℕ) (before after : Tokens) → xs ≡ before ++ at t p ∷ after → Begins strict xs → Stands strict before t
+begins-over :
+    {xs : Tokens} (t : Tok) (p : ℕ) (before after : Tokens)
+    → xs ≡ before ++ at t p ∷ after
+    → Begins strict xs
+    → Stands strict before t
 begins-over t p before after e b =
-    (p, after ++ b .0, b .1, subst (λ z. IsSheet z (b .1)) (ap (λ z. z ++ b .0) e ∙ append-assoc before (at t p ∷ after) (b .0)) (b .2))
+    (p, after ++ b .0, b .1, subst (λ z. IsSheet z (b .1))
+        (ap (λ z. z ++ b .0) e ∙ append-assoc before (at t p ∷ after) (b .0)) (b .2))
 
 -- two cuts of one list are the same, or one lies behind the other
 data Cuts (b c : Tokens) (x y : Placed) : Type 0 where
@@ -210,8 +245,10 @@ one-token {c = c} {u = u} {q = q} (ahead m e) x h v y k w = absurd (k (begins-ov
 one-refusal : One-refusal
 one-refusal xs size n m p q (at-token b bs e x h v) (at-token c cs f y k w) =
     one-token (cuts b c bs cs (sym e ∙ f)) x h v y k w
-one-refusal xs size n m p q (at-token {t = t} b bs e x h v) (at-end y k) = absurd (h (begins-over t p b bs e y))
-one-refusal xs size n m p q (at-end x h) (at-token {t = t} c cs f y k w) = absurd (k (begins-over t q c cs f x))
+one-refusal xs size n m p q (at-token {t =
+    t} b bs e x h v) (at-end y k) = absurd (h (begins-over t p b bs e y))
+one-refusal xs size n m p q (at-end x h) (at-token {t =
+    t} c cs f y k w) = absurd (k (begins-over t q c cs f x))
 one-refusal xs size n m p q (at-end x h) (at-end y k) = (refl, refl)
 
 pub one-verdict : One-verdict

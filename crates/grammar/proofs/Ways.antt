@@ -56,5 +56,6 @@ module _ (L : Limits) where
   way (a-unit d l o) = any-unit (way-more l o)
   way (named l o) = by unit-call (by no-terms (way-more l o))
   way (more l o) = way-more l o
-  way (after-join j o) = by (join-number {n = 0}) (by (weight-none {c = Equal}) (any-term (way-more (only j) o)))
+  way (after-join j o) =
+      by (join-number {n = 0}) (by (weight-none {c = Equal}) (any-term (way-more (only j) o)))
   way (numbered j o) = by (weight-none {c = Equal}) (any-term (way-more (only j) o))

@@ -36,7 +36,12 @@ in-brackets (negated f) = omega arith
 in-brackets (picked w f) = omega arith
 in-brackets (joined j w f g) = omega arith
 
-join-nested : (l : Level) (j : Join) (w : Weights) (f g : Formula) (d : ℕ) → Fits strict l j → nested f unit ≤ d → nested g (formula (only j)) ≤ d → nested (joined j w f g) (formula l) ≤ d
+join-nested :
+    (l : Level) (j : Join) (w : Weights) (f g : Formula) (d : ℕ)
+    → Fits strict l j
+    → nested f unit ≤ d
+    → nested g (formula (only j)) ≤ d
+    → nested (joined j w f g) (formula l) ≤ d
 join-nested any j w f g d e h k = omega arith
 join-nested (only And) And w f g d e h k = omega arith
 join-nested (only Or) Or w f g d e h k = omega arith
@@ -50,7 +55,8 @@ reads-nested (a-not h a) = let i = reads-nested a in omega arith
 reads-nested (a-pick h a) = let i = reads-nested a in omega arith
 reads-nested (brackets {f = f} h a) = let i = reads-nested a in let k = in-brackets f in omega arith
 reads-nested (alone {l = l} {f = f} a) = let i = reads-nested a in let k = least f (formula l) in omega arith
-reads-nested (a-join {d} {l = l} {f = f} {g = g} {w = w} {j = j} a h v b) = join-nested l j w f g d h (reads-nested a) (reads-nested b)
+reads-nested (a-join {d} {l =
+    l} {f = f} {g = g} {w = w} {j = j} a h v b) = join-nested l j w f g d h (reads-nested a) (reads-nested b)
 
 -- Numbers: of each item, that its numbers are small, and those of the rest
 
@@ -66,11 +72,20 @@ term-small a-bare h = (tt, tail h)
 term-small a-sum h = (head (tail (tail h)), tail (tail (tail h)))
 term-small a-difference h = (head (tail (tail h)), tail (tail (tail h)))
 
-parted-small : {xs r : Tokens} {ts : List Term} → Parted Term IsTerm xs r ts → SmallNumbers xs → SmallTerms ts × SmallNumbers r
+parted-small :
+    {xs r : Tokens} {ts : List Term}
+    → Parted Term IsTerm xs r ts
+    → SmallNumbers xs
+    → SmallTerms ts × SmallNumbers r
 parted-small (last i) h = let v = term-small i h in ((v .0, tt), tail (v .1))
-parted-small (next i k) h = let v = term-small i h in let u = parted-small k (tail (v .1)) in ((v .0, u .0), u .1)
+parted-small (next i k) h =
+    let v = term-small i h in let u = parted-small k (tail (v .1)) in ((v .0, u .0), u .1)
 
-terms-small : {xs r : Tokens} {ts : List Term} → Listed Term IsTerm xs r ts → SmallNumbers xs → SmallTerms ts × SmallNumbers r
+terms-small :
+    {xs r : Tokens} {ts : List Term}
+    → Listed Term IsTerm xs r ts
+    → SmallNumbers xs
+    → SmallTerms ts × SmallNumbers r
 terms-small none h = (tt, tail h)
 terms-small (some k) h = parted-small k h
 
@@ -82,12 +97,21 @@ names-small : {xs r : Tokens} {ws : List Word} → Listed Word IsName xs r ws �
 names-small none h = tail h
 names-small (some k) h = names-rest k h
 
-weights-small : {xs r : Tokens} {w : Weights} → IsWeights xs r w → SmallNumbers xs → SmallWeights w × SmallNumbers r
+weights-small :
+    {xs r : Tokens} {w : Weights}
+    → IsWeights xs r w
+    → SmallNumbers xs
+    → SmallWeights w × SmallNumbers r
 weights-small no-weights h = (tt, h)
 weights-small weights h = ((head h, head (tail (tail h))), tail (tail (tail h)))
 
-reads-small : {k : Kind} {d : ℕ} {xs r : Tokens} {f : Formula} → Reads k d xs r f → SmallNumbers xs → SmallFormula f × SmallNumbers r
-reads-small (a-comparison a b) h = let v = term-small a h in let u = term-small b (tail (v .1)) in ((v .0, u .0), u .1)
+reads-small :
+    {k : Kind} {d : ℕ} {xs r : Tokens} {f : Formula}
+    → Reads k d xs r f
+    → SmallNumbers xs
+    → SmallFormula f × SmallNumbers r
+reads-small (a-comparison a b) h =
+    let v = term-small a h in let u = term-small b (tail (v .1)) in ((v .0, u .0), u .1)
 reads-small (a-call l) h = terms-small l (tail (tail h))
 reads-small (a-not e a) h = reads-small a (tail h)
 reads-small (a-pick e a) h = reads-small a (tail (tail h))
@@ -99,14 +123,22 @@ reads-small (a-join a e w b) h =
     let t = reads-small b (u .1) in
     ((u .0, v .0, t .0), t .1)
 
-fields-small : {xs r : Tokens} {fs : List Field} → Many Field IsField xs r fs → SmallNumbers xs → SmallFields fs × SmallNumbers r
+fields-small :
+    {xs r : Tokens} {fs : List Field}
+    → Many Field IsField xs r fs
+    → SmallNumbers xs
+    → SmallFields fs × SmallNumbers r
 fields-small done h = (tt, h)
 fields-small (line a-field m) h =
     let g = tail (tail h) in
     let v = fields-small m (tail (tail (tail g))) in
     ((head g, head (tail g), v .0), v .1)
 
-rules-small : {xs r : Tokens} {rs : List Rule} → Many Rule IsRule xs r rs → SmallNumbers xs → ReadRules rs × SmallNumbers r
+rules-small :
+    {xs r : Tokens} {rs : List Rule}
+    → Many Rule IsRule xs r rs
+    → SmallNumbers xs
+    → ReadRules rs × SmallNumbers r
 rules-small done h = (tt, h)
 rules-small (line (a-rule n a) m) h =
     let v = reads-small a (tail (names-small n (tail (tail (tail h))))) in

@@ -30,5 +30,8 @@ pub word-class-by :
     → sameBytes w (codes "or") ≡ e
     → sameBytes w (codes "not") ≡ f
     → sameBytes w (codes "pick") ≡ g
-    → word-class w p ≡ cond a class.Field (cond b class.Rule (cond c class.Mark (cond d (class.Join And) (cond e (class.Join Or) (cond f class.Not (cond g class.Pick (class.Name (record { place = p; length = length w }))))))))
+    → word-class w p ≡ cond a class.Field (cond b class.Rule
+        (cond c class.Mark (cond d (class.Join And)
+        (cond e (class.Join Or) (cond f class.Not
+        (cond g class.Pick (class.Name (record { place = p; length = length w }))))))))
 word-class-by w p a b c d e f g x0 x1 x2 x3 x4 x5 x6 = cc

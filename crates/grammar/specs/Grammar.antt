@@ -141,8 +141,8 @@ pub data IsField : Tokens → Tokens → Field → Type 0 where
   a-field :
       {w : List ℕ} {l h p q i k e : ℕ} {r : Tokens}
       → IsField
-        (at field p ∷ at (name w) q ∷ at (number l) i ∷ at (number h) k ∷ at semicolon e ∷ r) r
-        (field-line p (word w q) (num l i) (num h k))
+      (at field p ∷ at (name w) q ∷ at (number l) i ∷ at (number h) k ∷ at semicolon e ∷ r) r
+      (field-line p (word w q) (num l i) (num h k))
 
 -- `rule NAME ( NAMES ) : FORMULA ;`
 pub data RuleBy (L : Limits) : Tokens → Tokens → Rule → Type 0 where

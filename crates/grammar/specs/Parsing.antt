@@ -160,7 +160,7 @@ abbrev pub SumRead : List ℕ → ℕ → WordEntry → Result (Read TermEntry) 
 SumRead text p v (Ok x) =
     (p ≤ x .end) × (x .end ≤ length text)
     × ((xs : Tokens) → Left text p xs → Came text State summed (λ s. s) xs (x .end) (λ us.
-        (w : List ℕ) (i : ℕ) → word-of text v ≡ word w i → IsTerm (at (name w) i ∷ xs) us (term-of text (x .value))))
+    (w : List ℕ) (i : ℕ) → word-of text v ≡ word w i → IsTerm (at (name w) i ∷ xs) us (term-of text (x .value))))
 SumRead text p v (Err f) = (xs : Tokens) → Left text p xs → Stopped text State summed xs f
 
 -- the class of a sign that is asked for
@@ -235,17 +235,21 @@ pub record Grown (b a : Table) : Type 0 where
 pub record Pushed (b a : Table) (n : Node) (i : ℕ) : Type 0 where
   pub grown : Grown b a
   pub there :
-    b .«node_count» < 256
-    → (i ≡ b .«node_count») × (a .«node_count» ≡ b .«node_count» + 1) × (node-at (a .nodes) i ≡ n)
+      b .«node_count» < 256
+      → (i ≡ b .«node_count») × (a .«node_count» ≡ b .«node_count» + 1) × (node-at (a .nodes) i ≡ n)
 
 -- the formula f is entered in the table, if there is room
 pub record Entered (text : List ℕ) (b a : Table) (part : Part) (f : Formula) : Type 0 where
   pub sized : size f ≡ part .size
   pub joined : joins f ≡ part .joins
   pub held :
-    b .«node_count» + size f ≤ 256
-    → Entries text (a .nodes) (b .«node_count») (part .body) f
+      b .«node_count» + size f ≤ 256
+      → Entries text (a .nodes) (b .«node_count») (part .body) f
       × (a .«node_count» ≡ b .«node_count» + size f) × (part .body + 1 ≡ a .«node_count»)
+
+-- the part of the entry i around this one
+abbrev pub around : Read Part → ℕ → Read Part
+around x i = record { value = record { body = i; size = x .value .size + 1; joins = x .value .joins }; end = x .end }
 
 -- a formula that is read, and entered
 abbrev pub FormulaIs : List ℕ → Kind → ℕ → Table → Table → Part → Tokens → Tokens → Type 0
@@ -265,21 +269,21 @@ Around = Level × Open
 abbrev pub ComparisonRead : List ℕ → ℕ → TermEntry → Table → Table → Result (Read Part) Fault → Type 0
 ComparisonRead text p t b a r =
     Outcome text p Around (λ c. compared-with (c .0) (c .1)) (λ c. more (c .0) (c .1)) Part (λ part xs us.
-      (d : ℕ) (zs : Tokens) → IsTerm zs xs (term-of text t) → FormulaIs text unit d b a part zs us) r
+    (d : ℕ) (zs : Tokens) → IsTerm zs xs (term-of text t) → FormulaIs text unit d b a part zs us) r
 
 -- the rest of a call, after its opening bracket
 abbrev pub CallRead : List ℕ → ℕ → WordEntry → Table → Table → Result (Read Part) Fault → Type 0
 CallRead text p v b a r =
     Outcome text p Around (λ c. terms (more (c .0) (c .1))) (λ c. more (c .0) (c .1)) Part (λ part xs us.
-      (d : ℕ) (w : List ℕ) (i q : ℕ) → word-of text v ≡ word w i
-      → FormulaIs text unit d b a part (at (name w) i ∷ at opening q ∷ xs) us) r
+    (d : ℕ) (w : List ℕ) (i q : ℕ) → word-of text v ≡ word w i
+    → FormulaIs text unit d b a part (at (name w) i ∷ at opening q ∷ xs) us) r
 
 -- the rest of a unit that begins with a name
 abbrev pub NamedRead : List ℕ → ℕ → WordEntry → Table → Table → Result (Read Part) Fault → Type 0
 NamedRead text p v b a r =
     Outcome text p Around (λ c. named (c .0) (c .1)) (λ c. more (c .0) (c .1)) Part (λ part xs us.
-      (d : ℕ) (w : List ℕ) (i : ℕ) → word-of text v ≡ word w i
-      → FormulaIs text unit d b a part (at (name w) i ∷ xs) us) r
+    (d : ℕ) (w : List ℕ) (i : ℕ) → word-of text v ≡ word w i
+    → FormulaIs text unit d b a part (at (name w) i ∷ xs) us) r
 
 -- a unit
 abbrev pub UnitRead : List ℕ → ℕ → ℕ → Table → Table → Result (Read Part) Fault → Type 0
@@ -291,8 +295,8 @@ abbrev pub WeightsRead : List ℕ → ℕ → Result (Read WeightsEntry) Fault �
 WeightsRead text p (Ok x) =
     (p ≤ x .end) × (x .end ≤ length text)
     × ((xs : Tokens) → Left text p xs
-      → Came text (Join × Open) (λ c. after-join (c .0) (c .1)) (λ c. a-unit (allowance (c .1)) (only (c .0)) (c .1))
-        xs (x .end) (λ us. IsWeights xs us (weights-of (x .value))))
+    → Came text (Join × Open) (λ c. after-join (c .0) (c .1)) (λ c. a-unit (allowance (c .1)) (only (c .0)) (c .1))
+    xs (x .end) (λ us. IsWeights xs us (weights-of (x .value))))
 WeightsRead text p (Err f) =
     (xs : Tokens) → Left text p xs → Stopped text (Join × Open) (λ c. after-join (c .0) (c .1)) xs f
 
@@ -309,7 +313,7 @@ NoJoin xs = (j : Join) (p : ℕ) (ys : Tokens) → xs ≡ at (join j) p ∷ ys �
 abbrev pub FormulaRead : List ℕ → ℕ → Level → ℕ → Table → Table → Result (Read Part) Fault → Type 0
 FormulaRead text d l p b a r =
     Outcome text p ((o : Open) × (allowance o ≡ d)) (λ c. a-unit d l (c .0)) (λ c. more l (c .0)) Part (λ part xs us.
-      FormulaIs text (formula l) d b a part xs us × NoJoin us) r
+    FormulaIs text (formula l) d b a part xs us × NoJoin us) r
 
 -- LinesKept text t fs rs e: of the lines fs and rs the table keeps those before the first that passes a limit, in e entries
 pub data LinesKept (text : List ℕ) (t : Table) (fs : List Field) (rs : List Rule) (e : ℕ) : Type 0 where
@@ -352,8 +356,8 @@ pub record BodyHeld (text : List ℕ) (t : Table) (s : ℕ) (part : Part) (f : F
   pub sized : size f ≡ part .size
   pub joined : joins f ≡ part .joins
   pub held :
-    s + size f ≤ 256
-    → Entries text (t .nodes) s (part .body) f × (t .«node_count» ≡ s + size f) × (part .body + 1 ≡ t .«node_count»)
+      s + size f ≤ 256
+      → Entries text (t .nodes) s (part .body) f × (t .«node_count» ≡ s + size f) × (part .body + 1 ≡ t .«node_count»)
 
 -- a rule line more
 abbrev pub RuleKept : Table → Table → ℕ → Head → ℕ → Part → Type 0
@@ -415,15 +419,15 @@ LineRead text p before after Item (Err f) =
 abbrev pub FieldRead : List ℕ → ℕ → ℕ → Table → Table → Result ℕ Fault → Type 0
 FieldRead text p i b a r =
     LineRead text p field-rest fields (λ xs us.
-      (f : Field) × IsField (at field i ∷ xs) us f
-      × ((fs : List Field) → Lines text b fs [] → Lines text a (fs ++ f ∷ []) [])) r
+    (f : Field) × IsField (at field i ∷ xs) us f
+    × ((fs : List Field) → Lines text b fs [] → Lines text a (fs ++ f ∷ []) [])) r
 
 -- the rest of a rule line whose first word is at place i, and the line that is kept
 abbrev pub RuleRead : List ℕ → ℕ → ℕ → Table → Table → Result ℕ Fault → Type 0
 RuleRead text p i b a r =
     LineRead text p rule-rest rules (λ xs us.
-      (f : Rule) × IsRule (at rule i ∷ xs) us f
-      × ((fs : List Field) (rs : List Rule) → Lines text b fs rs → Lines text a fs (rs ++ f ∷ []))) r
+    (f : Rule) × IsRule (at rule i ∷ xs) us f
+    × ((fs : List Field) (rs : List Rule) → Lines text b fs rs → Lines text a fs (rs ++ f ∷ []))) r
 
 -- the tokens do not begin with t
 abbrev pub NotFirst : Tok → Tokens → Type 0
@@ -434,7 +438,7 @@ abbrev pub MarkRead : List ℕ → ℕ → Table → Table → Result (Unit {0})
 MarkRead text p b a (Ok _) =
     (xs : Tokens) → Left text p xs
     → (m : Mark) × IsMark xs [] m
-      × ((fs : List Field) (rs : List Rule) → Lines text b fs rs → Holds text a (sheet fs rs m))
+    × ((fs : List Field) (rs : List Rule) → Lines text b fs rs → Holds text a (sheet fs rs m))
 MarkRead text p b a (Err f) =
     (xs : Tokens) → Left text p xs → NotFirst rule xs → Stopped text (Unit {0}) (λ _. rules) xs f
 
@@ -442,16 +446,16 @@ MarkRead text p b a (Err f) =
 abbrev pub FirstRead : List ℕ → Table → Table → Result ℕ Fault → Type 0
 FirstRead text b a r =
     LineRead text 0 start fields (λ xs us.
-      (f : Field) × IsField xs us f
-      × ((fs : List Field) → Lines text b fs [] → Lines text a (fs ++ f ∷ []) [])) r
+    (f : Field) × IsField xs us f
+    × ((fs : List Field) → Lines text b fs [] → Lines text a (fs ++ f ∷ []) [])) r
 
 -- from place p to place q there are only field lines, and they are kept
 abbrev pub FieldsSoFar : List ℕ → ℕ → Table → Table → ℕ → Type 0
 FieldsSoFar text p b a q =
     (p ≤ q) × (q ≤ length text)
     × ((xs : Tokens) → Left text p xs → Came text (Unit {0}) (λ _. fields) (λ _. fields) xs q (λ us.
-        (fs : List Field) × Many Field IsField xs us fs
-        × ((gs : List Field) → Lines text b gs [] → Lines text a (gs ++ fs) [])))
+    (fs : List Field) × Many Field IsField xs us fs
+    × ((gs : List Field) → Lines text b gs [] → Lines text a (gs ++ fs) [])))
 
 -- field lines, as many as there are
 abbrev pub FieldsRead : List ℕ → ℕ → Table → Table → Result ℕ Fault → Type 0
@@ -463,8 +467,8 @@ abbrev pub RulesSoFar : List ℕ → ℕ → Table → Table → ℕ → Type 0
 RulesSoFar text p b a q =
     (p ≤ q) × (q ≤ length text)
     × ((xs : Tokens) → Left text p xs → Came text (Unit {0}) (λ _. rules) (λ _. rules) xs q (λ us.
-        (rs : List Rule) × Many Rule IsRule xs us rs
-        × ((fs : List Field) (ps : List Rule) → Lines text b fs ps → Lines text a fs (ps ++ rs))))
+    (rs : List Rule) × Many Rule IsRule xs us rs
+    × ((fs : List Field) (ps : List Rule) → Lines text b fs ps → Lines text a fs (ps ++ rs))))
 
 -- rule lines, as many as there are
 abbrev pub RulesRead : List ℕ → ℕ → Table → Table → Result ℕ Fault → Type 0

@@ -56,7 +56,7 @@ abbrev pub write-rules : List Rule → Tokens → Tokens
 write-rules [] r = r
 write-rules (rule-line p w ps f ∷ rs) r =
     at rule p ∷ write-name w (at opening 0 ∷ write-list Word write-name ps
-      (at colon 0 ∷ write f (formula any) (at semicolon 0 ∷ write-rules rs r)))
+    (at colon 0 ∷ write f (formula any) (at semicolon 0 ∷ write-rules rs r)))
 
 -- a sheet
 abbrev pub write-sheet : Sheet → Tokens

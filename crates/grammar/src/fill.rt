@@ -89,6 +89,10 @@ impl Table {
             self.over = Some(first);
             return;
         }
-        self.mark = MarkLine { first, start: start as u8, body: part.body };
+        self.mark = MarkLine {
+            first,
+            start: start as u8,
+            body: part.body,
+        };
     }
 }

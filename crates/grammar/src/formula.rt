@@ -25,7 +25,7 @@ ghost use Prim.Native.Nat.{_+_, _<_, _≤_};
 ghost use lib.ListN.{length};
 ghost use Rattle.std.specs.Orderings.{Decides};
 ghost use Rattle.grammar.specs.Grammar.{Fits, strict};
-ghost use Rattle.grammar.specs.Parsing.{level-of, Grown, Measured, ComparisonRead, CallRead, NamedRead, UnitRead, WeightsRead, FormulaRead};
+ghost use Rattle.grammar.specs.Parsing.{level-of, around, Grown, Measured, ComparisonRead, CallRead, NamedRead, UnitRead, WeightsRead, FormulaRead};
 
 // Which joins may stand at a level.
 #[derive(Clone, Copy)]
@@ -57,9 +57,16 @@ impl Read<Part> {
     // The formula `body` around this one.
     fn within(self, body: u8) -> Read<Part>
         requires { ⌜ self .value .size < self .end ⌝ }
-        ensures { λ r. ⌜ r ≡ record { value = record { body = body; size = self .value .size + 1; joins = self .value .joins }; end = self .end } ⌝ }
+        ensures { λ r. ⌜ r ≡ around self body ⌝ }
     {
-        Read { value: Part { body, size: self.value.size + 1, joins: self.value.joins }, end: self.end }
+        Read {
+            value: Part {
+                body,
+                size: self.value.size + 1,
+                joins: self.value.joins,
+            },
+            end: self.end,
+        }
     }
 }
 
@@ -70,27 +77,53 @@ fn read_weights(text: &[u8], at: usize) -> Result<Read<Weights>, Fault>
 {
     let first = peek(text, at);
     let Class::Number(value) = first.class else {
-        return Ok(Read { value: Weights::Absent, end: at });
+        return Ok(Read {
+            value: Weights::Absent,
+            end: at,
+        });
     };
     let second = peek(text, first.end);
     let Class::Colon = second.class else {
-        return Ok(Read { value: Weights::Absent, end: at });
+        return Ok(Read {
+            value: Weights::Absent,
+            end: at,
+        });
     };
     let right = read_number(text, second.end)?;
-    let left = Number { value, place: first.place };
-    Ok(Read { value: Weights::Given(left, right.value), end: right.end })
+    let left = Number {
+        value,
+        place: first.place,
+    };
+    Ok(Read {
+        value: Weights::Given(left, right.value),
+        end: right.end,
+    })
 }
 
 // The rest of a comparison, after its left term.
-fn read_comparison(text: &[u8], at: usize, left: Term, table: &mut Table) -> Result<Read<Part>, Fault>
+fn read_comparison(
+    text: &[u8],
+    at: usize,
+    left: Term,
+    table: &mut Table,
+) -> Result<Read<Part>, Fault>
     ensures grown { λ r. ⌜ Grown (now (table .entry)) (now (table .exit)) ⌝ }
     ensures measured { λ r. ⌜ Measured at r ⌝ }
-    ensures value { λ r. ⌜ ComparisonRead (now (text .entry)) at left (now (table .entry)) (now (table .exit)) r ⌝ }
+    ensures value {
+        λ r. ⌜ ComparisonRead (now (text .entry)) at left (now (table .entry)) (now (table .exit)) r ⌝
+    }
 {
     let sign = read_sign(text, at)?;
     let right = read_term(text, sign.end)?;
     let body = table.push(Node::Compared(sign.value, left, right.value));
-    Ok(Read { value: Part { body, size: 1, joins: 0 }, end: right.end })
+    Ok(Read {
+        value: Part {
+            body,
+            size: 1,
+            joins: 0,
+        },
+        end: right.end,
+    })
 }
 
 // The rest of a call, after its opening bracket.
@@ -102,7 +135,14 @@ fn read_call(text: &[u8], at: usize, word: Word, table: &mut Table) -> Result<Re
 {
     let terms = read_terms(text, at)?;
     let body = table.push(Node::Called(word, terms.value.count, terms.value.items));
-    Ok(Read { value: Part { body, size: 1, joins: 0 }, end: terms.end })
+    Ok(Read {
+        value: Part {
+            body,
+            size: 1,
+            joins: 0,
+        },
+        end: terms.end,
+    })
 }
 
 // The rest of a unit that begins with a name: a call or a comparison.
@@ -130,7 +170,9 @@ pub(crate) fn read_formula(
 ) -> Result<Read<Part>, Fault>
     ensures grown { λ r. ⌜ Grown (now (table .entry)) (now (table .exit)) ⌝ }
     ensures measured { λ r. ⌜ Measured at r ⌝ }
-    ensures value { λ r. ⌜ FormulaRead (now (text .entry)) depth (level-of level) at (now (table .entry)) (now (table .exit)) r ⌝ }
+    ensures value {
+        λ r. ⌜ FormulaRead (now (text .entry)) depth (level-of level) at (now (table .entry)) (now (table .exit)) r ⌝
+    }
 {
     let left = read_unit(text, at, depth, table)?;
     let ahead = peek(text, left.end);
@@ -138,14 +180,20 @@ pub(crate) fn read_formula(
         return Ok(left);
     };
     if !level.fits(join) {
-        return Err(Fault { refusal: Refusal::JoinMixes, place: ahead.place });
+        return Err(Fault {
+            refusal: Refusal::JoinMixes,
+            place: ahead.place,
+        });
     }
     let weights = read_weights(text, ahead.end)?;
     let right = read_formula(text, weights.end, depth, Level::Only(join), table)?;
     let body = table.push(Node::Joined(join, weights.value, left.value.body, right.value.body));
     let size = left.value.size + right.value.size + 1;
     let joins = left.value.joins + right.value.joins + 1;
-    Ok(Read { value: Part { body, size, joins }, end: right.end })
+    Ok(Read {
+        value: Part { body, size, joins },
+        end: right.end,
+    })
 }
 
 // A unit with at most `depth` levels in it.
@@ -181,7 +229,10 @@ fn read_unit(text: &[u8], at: usize, depth: u8, table: &mut Table) -> Result<Rea
             }
             let inner = read_formula(text, ahead.end, depth - 1, Level::Any, table)?;
             let end = expect(text, inner.end, Fixed::Closing)?;
-            Ok(Read { value: inner.value, end })
+            Ok(Read {
+                value: inner.value,
+                end,
+            })
         }
         _ => Err(ahead.not_permitted()),
     }

@@ -31,10 +31,19 @@ fn read_names(text: &[u8], at: usize) -> Result<Read<Few<Word>>, Fault>
     requires { ⌜ at ≤ length (now text) ⌝ }
     ensures { λ r. ⌜ NamesRead (now (text .entry)) at r ⌝ }
 {
-    let mut list = Few { items: [Word { place: 0, length: 0 }; 4], count: 0 };
+    let mut list = Few {
+        items: [Word {
+            place: 0,
+            length: 0,
+        }; 4],
+        count: 0,
+    };
     let ahead = peek(text, at);
     if let Class::Closing = ahead.class {
-        return Ok(Read { value: list, end: ahead.end });
+        return Ok(Read {
+            value: list,
+            end: ahead.end,
+        });
     }
     let mut from = at;
     loop {
@@ -43,7 +52,10 @@ fn read_names(text: &[u8], at: usize) -> Result<Read<Few<Word>>, Fault>
         let ahead = peek(text, name.end);
         match ahead.class {
             Class::Comma => from = ahead.end,
-            Class::Closing => return Ok(Read { value: list, end: ahead.end }),
+            Class::Closing => return Ok(Read {
+                value: list,
+                end: ahead.end,
+            }),
             _ => return Err(ahead.not_permitted()),
         }
     }
@@ -57,7 +69,13 @@ fn read_head(text: &[u8], at: usize) -> Result<Read<Head>, Fault>
     let opening = expect(text, name.end, Fixed::Opening)?;
     let params = read_names(text, opening)?;
     let end = expect(text, params.end, Fixed::Colon)?;
-    Ok(Read { value: Head { name: name.value, params: params.value }, end })
+    Ok(Read {
+        value: Head {
+            name: name.value,
+            params: params.value,
+        },
+        end,
+    })
 }
 
 // The formula of a line, and the semicolon.
@@ -68,11 +86,19 @@ fn read_body(text: &[u8], at: usize, table: &mut Table) -> Result<Read<Part>, Fa
 {
     let formula = read_formula(text, at, 16, Level::Any, table)?;
     let end = expect(text, formula.end, Fixed::Semicolon)?;
-    Ok(Read { value: formula.value, end })
+    Ok(Read {
+        value: formula.value,
+        end,
+    })
 }
 
 // The rest of a field line, after the word `field` at `first`.
-pub(crate) fn read_field(text: &[u8], at: usize, first: usize, table: &mut Table) -> Result<usize, Fault>
+pub(crate) fn read_field(
+    text: &[u8],
+    at: usize,
+    first: usize,
+    table: &mut Table,
+) -> Result<usize, Fault>
     ensures entries { λ r. ⌜ now (table .exit) .«node_count» ≡ now (table .entry) .«node_count» ⌝ }
     ensures value { λ r. ⌜ FieldRead (now (text .entry)) at first (now (table .entry)) (now (table .exit)) r ⌝ }
 {
@@ -80,12 +106,22 @@ pub(crate) fn read_field(text: &[u8], at: usize, first: usize, table: &mut Table
     let low = read_number(text, name.end)?;
     let high = read_number(text, low.end)?;
     let end = expect(text, high.end, Fixed::Semicolon)?;
-    table.keep_field(FieldLine { first, name: name.value, low: low.value, high: high.value });
+    table.keep_field(FieldLine {
+        first,
+        name: name.value,
+        low: low.value,
+        high: high.value,
+    });
     Ok(end)
 }
 
 // The rest of a rule line, after the word `rule` at `first`.
-pub(crate) fn read_rule(text: &[u8], at: usize, first: usize, table: &mut Table) -> Result<usize, Fault>
+pub(crate) fn read_rule(
+    text: &[u8],
+    at: usize,
+    first: usize,
+    table: &mut Table,
+) -> Result<usize, Fault>
     requires { ⌜ now table .«node_count» ≤ 256 ⌝ }
     ensures room { λ r. ⌜ now (table .exit) .«node_count» ≤ 256 ⌝ }
     ensures value { λ r. ⌜ RuleRead (now (text .entry)) at first (now (table .entry)) (now (table .exit)) r ⌝ }

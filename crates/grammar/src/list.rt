@@ -14,7 +14,9 @@ impl<T: Copy> Few<T> {
     pub(crate) fn keep(&mut self, item: T)
         requires { ⌜ now self .count + 1 < 2 ^ 64 ⌝ }
         ensures counts { λ _. ⌜ now (self .exit) .count ≡ now (self .entry) .count + 1 ⌝ }
-        ensures holds { λ _. ⌜ ((all : List T) → Holds4 T (now (self .entry)) all → Holds4 T (now (self .exit)) (all ++ item ∷ [])) ⌝ }
+        ensures holds {
+            λ _. ⌜ ((all : List T) → Holds4 T (now (self .entry)) all → Holds4 T (now (self .exit)) (all ++ item ∷ [])) ⌝
+        }
     {
         if self.count < 4 {
             self.items[self.count] = item;

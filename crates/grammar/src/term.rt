@@ -17,7 +17,10 @@ pub(crate) fn read_term(text: &[u8], at: usize) -> Result<Read<Term>, Fault>
 {
     let ahead = peek(text, at);
     match ahead.class {
-        Class::Number(value) => Ok(Read { value: Term::Constant(value), end: ahead.end }),
+        Class::Number(value) => Ok(Read {
+            value: Term::Constant(value),
+            end: ahead.end,
+        }),
         Class::Name(word) => read_sum(text, ahead.end, word),
         _ => Err(ahead.not_permitted()),
     }
@@ -32,13 +35,22 @@ pub(crate) fn read_sum(text: &[u8], at: usize, word: Word) -> Result<Read<Term>,
     match ahead.class {
         Class::Plus => {
             let number = read_number(text, ahead.end)?;
-            Ok(Read { value: Term::Raised(word, number.value.value), end: number.end })
+            Ok(Read {
+                value: Term::Raised(word, number.value.value),
+                end: number.end,
+            })
         }
         Class::Minus => {
             let number = read_number(text, ahead.end)?;
-            Ok(Read { value: Term::Lowered(word, number.value.value), end: number.end })
+            Ok(Read {
+                value: Term::Lowered(word, number.value.value),
+                end: number.end,
+            })
         }
-        _ => Ok(Read { value: Term::Bare(word), end: at }),
+        _ => Ok(Read {
+            value: Term::Bare(word),
+            end: at,
+        }),
     }
 }
 
@@ -47,10 +59,16 @@ pub(crate) fn read_terms(text: &[u8], at: usize) -> Result<Read<Few<Term>>, Faul
     requires { ⌜ at ≤ length (now text) ⌝ }
     ensures { λ r. ⌜ TermsRead (now (text .entry)) at r ⌝ }
 {
-    let mut list = Few { items: [Term::Constant(0); 4], count: 0 };
+    let mut list = Few {
+        items: [Term::Constant(0); 4],
+        count: 0,
+    };
     let ahead = peek(text, at);
     if let Class::Closing = ahead.class {
-        return Ok(Read { value: list, end: ahead.end });
+        return Ok(Read {
+            value: list,
+            end: ahead.end,
+        });
     }
     let mut from = at;
     loop {
@@ -59,7 +77,10 @@ pub(crate) fn read_terms(text: &[u8], at: usize) -> Result<Read<Few<Term>>, Faul
         let ahead = peek(text, term.end);
         match ahead.class {
             Class::Comma => from = ahead.end,
-            Class::Closing => return Ok(Read { value: list, end: ahead.end }),
+            Class::Closing => return Ok(Read {
+                value: list,
+                end: ahead.end,
+            }),
             _ => return Err(ahead.not_permitted()),
         }
     }

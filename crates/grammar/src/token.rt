@@ -66,14 +66,20 @@ impl Ahead {
     pub(crate) fn not_permitted(self) -> Fault
         ensures { λ r. ⌜ r ≡ record { refusal = TokenNotPermitted; place = self .place } ⌝ }
     {
-        Fault { refusal: Refusal::TokenNotPermitted, place: self.place }
+        Fault {
+            refusal: Refusal::TokenNotPermitted,
+            place: self.place,
+        }
     }
 
     // The fault that this token opens a level too many.
     pub(crate) fn too_deep(self) -> Fault
         ensures { λ r. ⌜ r ≡ record { refusal = TooDeep; place = self .place } ⌝ }
     {
-        Fault { refusal: Refusal::TooDeep, place: self.place }
+        Fault {
+            refusal: Refusal::TooDeep,
+            place: self.place,
+        }
     }
 }
 
@@ -109,7 +115,10 @@ fn word_class(word: &[u8], place: usize) -> Class
     } else if word == b"pick" {
         Class::Pick
     } else {
-        Class::Name(Word { place, length: word.len() })
+        Class::Name(Word {
+            place,
+            length: word.len(),
+        })
     }
 }
 
@@ -139,9 +148,17 @@ pub(crate) fn peek(text: &[u8], at: usize) -> Ahead
                 Token::Number(n) => Class::Number(n),
                 Token::Sign(s) => sign_class(s),
             };
-            Ahead { class, place: t.place, end: t.end }
+            Ahead {
+                class,
+                place: t.place,
+                end: t.end,
+            }
         }
-        _ => Ahead { class: Class::End, place: text.len(), end: text.len() },
+        _ => Ahead {
+            class: Class::End,
+            place: text.len(),
+            end: text.len(),
+        },
     }
 }
 
@@ -150,7 +167,11 @@ pub(crate) fn expect(text: &[u8], at: usize, sign: Fixed) -> Result<usize, Fault
     ensures { λ r. ⌜ Expected (now (text .entry)) at (fixed-shape sign) r ⌝ }
 {
     let ahead = peek(text, at);
-    if sign.is(ahead.class) { Ok(ahead.end) } else { Err(ahead.not_permitted()) }
+    if sign.is(ahead.class) {
+        Ok(ahead.end)
+    } else {
+        Err(ahead.not_permitted())
+    }
 }
 
 // The name at a place.
@@ -159,7 +180,10 @@ pub(crate) fn read_name(text: &[u8], at: usize) -> Result<Read<Word>, Fault>
 {
     let ahead = peek(text, at);
     match ahead.class {
-        Class::Name(word) => Ok(Read { value: word, end: ahead.end }),
+        Class::Name(word) => Ok(Read {
+            value: word,
+            end: ahead.end,
+        }),
         _ => Err(ahead.not_permitted()),
     }
 }
@@ -170,7 +194,13 @@ pub(crate) fn read_number(text: &[u8], at: usize) -> Result<Read<Number>, Fault>
 {
     let ahead = peek(text, at);
     match ahead.class {
-        Class::Number(value) => Ok(Read { value: Number { value, place: ahead.place }, end: ahead.end }),
+        Class::Number(value) => Ok(Read {
+            value: Number {
+                value,
+                place: ahead.place,
+            },
+            end: ahead.end,
+        }),
         _ => Err(ahead.not_permitted()),
     }
 }
@@ -181,7 +211,10 @@ pub(crate) fn read_sign(text: &[u8], at: usize) -> Result<Read<Comparison>, Faul
 {
     let ahead = peek(text, at);
     match ahead.class {
-        Class::Compare(sign) => Ok(Read { value: sign, end: ahead.end }),
+        Class::Compare(sign) => Ok(Read {
+            value: sign,
+            end: ahead.end,
+        }),
         _ => Err(ahead.not_permitted()),
     }
 }

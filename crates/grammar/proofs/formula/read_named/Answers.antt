@@ -12,7 +12,8 @@ returns-in-Opening c =
     record {
       grown = c .read-call .ensures .grown;
       measured = measured-from _ _ _ (omega (arith, r .0)) (c .read-call .ensures .measured);
-      value = called-read _ _ (c .peek-ahead .result) (c .peek-ahead .ensures) (c .args .word) _ _ _ is (c .read-call .ensures .value);
+      value = called-read _ _ (c .peek-ahead .result) (c .peek-ahead .ensures) (c .args .word) _ _ _ is
+          (c .read-call .ensures .value);
     }
 
 pub returns-in-Break-left : need.returns-in-Break-left
@@ -21,8 +22,9 @@ returns-in-Break-left c =
     rw (q .1, q .2) (record {
       grown = grown-none (c .args .table .now);
       measured = tt;
-      value = sum-stops _ _ (c .peek-ahead .result) (c .peek-ahead .ensures) (c .args .word) (c .args .table .now) (c .args .table .now) _
-        (c .in-rest .not-Opening) (c .in-Break-left .ensures tt);
+      value = sum-stops _ _ (c .peek-ahead .result) (c .peek-ahead .ensures) (c .args .word)
+          (c .args .table .now) (c .args .table .now) _
+          (c .in-rest .not-Opening) (c .in-Break-left .ensures tt);
     })
 
 pub returns : need.returns
@@ -32,5 +34,5 @@ returns c =
       grown = c .read-comparison .ensures .grown;
       measured = measured-from _ _ _ (s .0) (c .read-comparison .ensures .measured);
       value = compared-read _ _ (c .peek-ahead .result) (c .peek-ahead .ensures) (c .args .word) _ _ _ _
-        (c .in-rest .not-Opening) s (c .read-comparison .ensures .value);
+          (c .in-rest .not-Opening) s (c .read-comparison .ensures .value);
     }

@@ -10,7 +10,8 @@ use Rattle.grammar.proofs.line.read_names.Given as given
 
 abbrev pub Inv-loop-name : given.InvT-loop-name
 Inv-loop-name l =
-    Reading (l .text) WordEntry Word (word-of (l .text)) IsName names more-names (expects some-name) name-brackets (l .at) (l .list) (l .from)
+    Reading (l .text) WordEntry Word (word-of (l .text)) IsName names more-names (expects some-name)
+        name-brackets (l .at) (l .list) (l .from)
 
 abbrev pub μ-loop-name : given.MeasureT-loop-name
 μ-loop-name l = length (l .text) - l .from

@@ -10,7 +10,8 @@ use Rattle.grammar.proofs.term.read_terms.Given as given
 
 abbrev pub Inv-loop-term : given.InvT-loop-term
 Inv-loop-term l =
-    Reading (l .text) TermEntry Term (term-of (l .text)) IsTerm terms more-terms term term-brackets (l .at) (l .list) (l .from)
+    Reading (l .text) TermEntry Term (term-of (l .text)) IsTerm terms more-terms term term-brackets (l .at)
+        (l .list) (l .from)
 
 abbrev pub μ-loop-term : given.MeasureT-loop-term
 μ-loop-term l = length (l .text) - l .from

@@ -14,7 +14,8 @@ returns-then-is-some c = record {
 pub returns-then-self-ge8 : need.returns-then-self-ge8
 returns-then-self-ge8 c = record {
   entries = refl;
-  lines = λ text fs h. field-passes text (c .args .self .now) fs (c .args .line) (sym (c .if-is-some .ensures tt)) (c .if-self-ge8 .taken) h;
+  lines = λ text fs h. field-passes text (c .args .self .now) fs (c .args .line)
+      (sym (c .if-is-some .ensures tt)) (c .if-self-ge8 .taken) h;
 }
 
 pub returns : need.returns
@@ -22,5 +23,6 @@ returns c =
     let room : length (c .args .self .now .fields) ≡ 8 = search needs in
     record {
       entries = refl;
-      lines = λ text fs h. field-stored text (c .args .self .now) fs (c .args .line) room (sym (c .if-is-some .ensures tt)) (c .if-self-ge8 .left) h;
+      lines = λ text fs h. field-stored text (c .args .self .now) fs (c .args .line) room
+          (sym (c .if-is-some .ensures tt)) (c .if-self-ge8 .left) h;
     }
