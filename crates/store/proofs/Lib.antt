@@ -1,0 +1,4 @@
+pub mod Lending
+pub mod Rows
+pub mod Rules
+pub mod Opens

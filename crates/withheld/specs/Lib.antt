@@ -1,0 +1,2 @@
+pub mod Withholding
+pub mod Sounds
