@@ -6,11 +6,14 @@ use mathlib.Core.Bool.{Bool, true, false, _&&_}
 use mathlib.Core.List.{List, [], _∷_}
 use native.Mathlib.Omega.{arith}
 use lib.ListN.{length, getD}
-use lib.Dec.{eqb, ltb}
+use lib.Dec.{eqb}
 use Rattle.std.proofs.shelf.Elements.{all-getD}
 use Rattle.std.proofs.shelf.Tests.{and-from, and-parts, eqb-true, eq-eqb, lt-ltb, le-ltb, cases-bool, cases-lt, both-ways, cond-true, cond-false}
-use Rattle.marks.specs.Sets.{Marks, Shaped, MarksOf, Empty, In, Values}
-use Rattle.marks.specs.Counted.{any-below, below, some, takes, values, Taken}
+use Rattle.formula.specs.declared.Comparison.{Comparison}
+use Rattle.formula.specs.declared.Comparison.the-variants.{Equal}
+use Rattle.formula.specs.Comparing.{holds}
+use Rattle.marks.specs.Sets.{Marks, Shaped, MarksOf, Empty, kept, In, Values}
+use Rattle.marks.specs.Counted.{below, some, takes, values, Taken}
 use Rattle.marks.proofs.Below.{any-below-decides, below-in, in-below, below-ascending, below-same, below-none, length-le}
 
 -- some
@@ -116,3 +119,19 @@ values-are n S f sh h =
 
 pub values-taken : (n : ℕ) (S : Marks) (f : ℕ) → MarksOf n S → Taken n S f (values n S f)
 values-taken n S f sh = (values-are n S f sh, values-outside n S f)
+
+-- Marks kept by a value of their field
+
+pub in-getD : (vs : List ℕ) (k : ℕ) → k < length vs → In (getD vs k 0) vs
+in-getD [] k h = absurd (omega arith)
+in-getD (x ∷ xs) zero h = inl refl
+in-getD (x ∷ xs) (suc k) h = inr (in-getD xs k (omega arith))
+
+-- a keep leaves marks of n fields
+pub kept-of : (n : ℕ) (S : Marks) (f : ℕ) (c : Comparison) (k : ℕ) → MarksOf n S → MarksOf n (kept S f c k)
+kept-of n S f c k sh m e = sh m (and-parts (S m) (holds c (getD m f 0) k) e .0)
+
+-- a keep of one of the values leaves a mark
+pub kept-some : (n : ℕ) (S : Marks) (f v : ℕ) → In v (values n S f) → some n (kept S f Equal v) ≡ true
+unfolding takes
+kept-some n S f v i = value-taken n S f v i .2

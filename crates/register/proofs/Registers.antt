@@ -1,6 +1,6 @@
 -- The marks of a register: its rows are its marks, keeping and restarting, and the numbers that a field
 -- takes.
-use Prim.Native.Nat.{ℕ, zero, suc, _+_, _*_, _/_, _<_, _≤_}
+use Prim.Native.Nat.{ℕ, _+_, _*_, _/_, _<_, _≤_}
 use mathlib.Core.Path.{_≡_, refl, sym, ap, subst, _∙_}
 use mathlib.Core.Logic.{⊎-elim}
 use mathlib.Core.Bool.{Bool, true, false, _&&_, _||_, and-assoc, or-comm}
@@ -9,7 +9,7 @@ use native.Mathlib.Nat.{div-mul-le-self, mul-le-mul-right, add-mul, le-div-iff-m
 use native.Mathlib.Numerals.{add-one}
 use native.Mathlib.Omega.{arith}
 use lib.Dec.{eqb, ltb}
-use lib.ListN.{length, getD, take, drop, length-take, length-drop}
+use lib.ListN.{length, getD, length-take, length-drop}
 use Rattle.std.specs.declared.result.Result.{Result}
 use Rattle.std.specs.declared.result.Result.the-variants.{Ok, Err}
 use Rattle.std.proofs.shelf.Elements.{all-getD}
@@ -18,7 +18,6 @@ use Rattle.std.proofs.shelf.Ways.{same-from-decides}
 use Rattle.formula.specs.declared.Comparison.{Comparison}
 use Rattle.formula.specs.Comparing.{holds}
 use Rattle.refusal.specs.declared.Refusal.{Refusal}
-use Rattle.marks.specs.Sets.{Shaped}
 use Rattle.marks.specs.Counted.{any-below, below, some, takes, values}
 use Rattle.marks.proofs.Below.{any-below-decides}
 use Rattle.marks.proofs.Counted.{some-complete, empty-some, takes-sound, takes-complete, values-by}
@@ -28,7 +27,7 @@ use Rattle.store.specs.Rows.{has}
 use Rattle.store.specs.Opens.{every-mark, open-left}
 use Rattle.store.specs.Sounds.{every-has, marks-in-of}
 use Rattle.register.specs.declared.RegisterStore.{RegisterStore}
-use Rattle.register.specs.Registers.{row-at, IsRow, HasRows, same, is-row, both, numbers-of, width-of, register-left}
+use Rattle.register.specs.Registers.{row-at, HasRows, same, is-row, both, numbers-of, width-of, register-left}
 use Rattle.register.specs.Sounds.{left-of}
 
 -- Rows

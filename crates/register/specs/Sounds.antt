@@ -1,6 +1,4 @@
 -- Proof that the register store's sets are sets of marks; it stands here since a ghost member cites it.
-use Prim.Native.Nat.{ℕ}
-use mathlib.Core.Bool.{_&&_}
 use Rattle.std.proofs.shelf.Tests.{and-parts}
 use Rattle.marks.specs.Sets.{MarksOf}
 use Rattle.store.specs.Rules.{Sound}

@@ -4,7 +4,7 @@ ghost use mathlib.Core.Path.{_≡_};
 ghost use lib.ListN.{length};
 ghost use denote.Ref.{now};
 ghost use Rattle.store.specs.Rules.{TellsEmpty};
-ghost use Rattle.store.specs.Rows.{HasTaken};
+ghost use Rattle.store.specs.TakenRows.{HasTaken};
 ghost use Rattle.register.specs.Registers.{HasRows, numbers-of, width-of, row-at, register-start, register-left};
 ghost use Rattle.register.specs.Sounds.{register-sound};
 use formula::Comparison;
@@ -27,7 +27,8 @@ impl<'a> RegisterStore<'a> {
     // an unfinished last row and a row with a number above 1,023 count for nothing.
     pub fn new(sheet: &Sheet, register: &'a [u16]) -> RegisterStore<'a>
         ensures fields { λ r. ⌜ width-of r ≡ now (sheet .entry) .«field_count» ⌝ }
-        ensures starts { λ r. ⌜ HasRows (now (sheet .entry) .«field_count») (now (register .entry)) (register-start r) ⌝ }
+        ensures starts { λ r. ⌜ HasRows (now (sheet .entry) .«field_count») (now (register .entry))
+            (register-start r) ⌝ }
         ensures left { λ r. ⌜ register-left r ≡ register-start r ⌝ }
     {
         RegisterStore {

@@ -1,18 +1,18 @@
 -- The sets of the open store by its rows: what a narrowed row, full rows and an empty row make of them,
 -- and the numbers that a field takes.
-use Prim.Native.Nat.{ℕ, zero, suc, _+_, _<_, _≤_}
+use Prim.Native.Nat.{ℕ, zero, suc, _<_, _≤_}
 use mathlib.Core.Path.{_≡_, refl, sym, ap, subst, _∙_}
 use mathlib.Core.Logic.{⊎-elim}
-use mathlib.Core.Bool.{Bool, true, false, not, _&&_, and-assoc}
+use mathlib.Core.Bool.{Bool, true, false, _&&_, and-assoc}
 use mathlib.Core.List.{List, [], _∷_}
 use native.Mathlib.Omega.{arith}
 use lib.Dec.{eqb, ltb}
 use lib.ListN.{length, getD, set, length-set}
 use lib.Seq.{getD-set-same}
-use Rattle.std.proofs.shelf.Tests.{and-from, and-parts, and-left, and-right, eqb-true, eq-eqb, ne-eqb, lt-ltb, ltb-true, cases-bool, both-ways}
+use Rattle.std.proofs.shelf.Tests.{and-from, and-parts, and-left, and-right, eqb-true, eq-eqb, ne-eqb, cases-bool, both-ways}
 use Rattle.formula.specs.declared.Comparison.{Comparison}
 use Rattle.formula.specs.Comparing.{holds}
-use Rattle.marks.specs.Sets.{Marks, Shaped, kept}
+use Rattle.marks.specs.Sets.{kept}
 use Rattle.marks.specs.Counted.{any-below, below, some, takes, values}
 use Rattle.marks.proofs.Below.{any-below-decides}
 use Rattle.marks.proofs.Counted.{some-sound, some-complete, empty-some, takes-sound, takes-complete, values-by}

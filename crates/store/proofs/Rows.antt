@@ -1,7 +1,7 @@
--- A row's numbers. Assumes nothing.
+-- A row with a number more or less, and a loop that narrows a row.
 use mathlib.Core.Path.{_≡_, refl, sym, ap, subst, _∙_}
 use mathlib.Core.Bool.{Bool, true, false, _&&_, _||_, and-true, and-false, or-false}
-use mathlib.Core.List.{List, []}
+use mathlib.Core.List.{[]}
 use mathlib.Core.Logic.{_≢_, ⊎-elim}
 use Prim.Native.Nat.{ℕ, _+_, _<_, _≤_}
 use native.Mathlib.Omega.{arith}
@@ -9,7 +9,7 @@ use lib.ListN.{length, getD, set, length-set}
 use borrow.Author.Count.{below-more}
 use lib.Dec.{ltb, eqb}
 use Rattle.std.proofs.shelf.Lists.{getD-set-same, getD-set-other}
-use Rattle.std.proofs.shelf.Tests.{and-from, and-left, and-right, or-right, lt-ltb, le-ltb, eq-eqb, ne-eqb, ltb-true, and-parts, cases-eq}
+use Rattle.std.proofs.shelf.Tests.{and-from, and-left, and-right, or-right, lt-ltb, le-ltb, eq-eqb, ne-eqb, cases-eq}
 use Rattle.store.specs.declared.row.Row.{Row}
 use Rattle.store.specs.Rows.{has}
 

@@ -1,13 +1,13 @@
 -- Proof that the open store's sets are sets of marks; it stands here since a ghost member cites it.
 use Prim.Native.Nat.{ℕ, _<_}
 use mathlib.Core.Path.{_≡_, refl, sym}
-use mathlib.Core.Bool.{Bool, true, false, _&&_}
+use mathlib.Core.Bool.{true, false}
 use mathlib.Core.List.{List, [], _∷_}
 use lib.Dec.{eqb, ltb}
 use lib.ListN.{length, getD}
 use Rattle.std.specs.shelf.Lists.{All}
 use Rattle.std.proofs.shelf.Tests.{and-from, and-parts, eqb-true, eq-eqb, lt-ltb, ltb-true, both-ways}
-use Rattle.marks.specs.Sets.{Marks, Shaped, MarksOf}
+use Rattle.marks.specs.Sets.{MarksOf}
 use Rattle.store.specs.declared.row.Row.{Row}
 use Rattle.store.specs.declared.open.OpenStore.{OpenStore}
 use Rattle.store.specs.Rules.{Sound}

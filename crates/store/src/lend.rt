@@ -13,7 +13,8 @@ impl<R> OpenStore<R> {
     // Lends row i: the store then holds what the borrower leaves there, and all else as it was.
     pub(crate) fn row(&mut self, i: usize) -> &mut R
         requires { ⌜ i < 8 ⌝ }
-        ensures { λ r. sem 𝓤 H A (follows (the-row R·row) R·row (name (self .entry)) (name r) (with-row (now (self .entry)) i))
+        ensures { λ r. sem 𝓤 H A (follows (the-row R·row) R·row (name (self .entry)) (name r)
+            (with-row (now (self .entry)) i))
             ∗ ⌜ (length (now (self .entry) .rows) ≡ 8) × ((z : R) → now r ≡ getD (now (self .entry) .rows) i z) ⌝ }
     {
         &mut self.rows[i]

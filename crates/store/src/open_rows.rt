@@ -2,7 +2,8 @@
 ghost use Prim.Native.Nat.{_≤_};
 ghost use mathlib.Core.Path.{_≡_};
 ghost use Rattle.store.specs.Rules.{TellsEmpty};
-ghost use Rattle.store.specs.Opens.{HasEvery, InRow, open-start, open-left};
+ghost use Rattle.store.specs.Opens.{HasEvery, open-start, open-left};
+ghost use Rattle.store.specs.TakenRows.{LendsTaken};
 ghost use Rattle.store.specs.Sounds.{open-sound};
 use crate::GREATEST;
 use crate::Store;
@@ -64,7 +65,7 @@ impl OpenStore {
 
     // The row of the numbers that a field takes in the current set, if it takes any.
     fn taken(&self, field: usize) -> Option<&Row>
-        ensures { λ r. ⌜ InRow (now (self .entry) .width) (open-left (now (self .entry))) field r ⌝ }
+        ensures { λ r. ⌜ LendsTaken (now (self .entry) .width) (open-left (now (self .entry))) field r ⌝ }
     {
         if field >= self.width || self.has_empty_row() {
             return None;

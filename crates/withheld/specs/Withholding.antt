@@ -12,7 +12,7 @@ use Rattle.std.specs.declared.result.Result.the-variants.{Ok, Err}
 use Rattle.refusal.specs.declared.Refusal.{Refusal}
 use Rattle.refusal.specs.Table.{number}
 use Rattle.marks.specs.Sets.{Marks}
-use Rattle.store.specs.Rules.{Inside}
+use Rattle.store.specs.Rules.{Inside, Stays}
 use Rattle.withheld.specs.declared.pair.Pair.{Pair}
 use Rattle.withheld.specs.declared.layer.Withheld.{Withheld}
 
@@ -33,30 +33,23 @@ without ps S m = S m && not (holds-one ps m)
 abbrev pub pairs-of : {X : Type 0} → Withheld X → List Pair
 pairs-of w = take (w .count) (w .pairs)
 
--- Over a lower store X with its width, starting set and current set
+-- 20 when the field is not one of the n or the number above 1,023, else 21 when there are 32 pairs
+abbrev pub RefusedWith : (n pairs f k : ℕ) → ℕ → Type 0
+RefusedWith n pairs f k r = ((Inside n f k → ⊥) × (r ≡ 20)) ⊎ (Inside n f k × (pairs ≡ 32) × (r ≡ 21))
+
+-- Over a lower store with its width, starting set and current set
 
 module _ {X : Type 0} (width : X → ℕ) (starting current : X → Marks) where
-  -- the layer begins anew: its pairs and starting set stay, and its current set is its starting set
-  pub record Refreshed (before after : Withheld X) : Type 0 where
-    pub pairs : pairs-of after ≡ pairs-of before
-    pub fields : width (after .lower) ≡ width (before .lower)
-    pub start : starting (after .lower) ≡ starting (before .lower)
-    pub left : current (after .lower) ≡ without (pairs-of before) (starting (before .lower))
-
-  -- the pair of f and k is set, last of the layer's pairs, and the layer begins anew
-  pub record Sets (before after : Withheld X) (f k : ℕ) : Type 0 where
+  -- the pair of f and k is set, last of the layer's pairs, and the layer restarts
+  pub record PairSet (before after : Withheld X) (f k : ℕ) : Type 0 where
     pub inside : Inside (width (before .lower)) f k
     pub room : length (pairs-of before) < 32
     pub pairs : pairs-of after ≡ pairs-of before ++ record { field = f; number = k } ∷ []
-    pub fields : width (after .lower) ≡ width (before .lower)
-    pub start : starting (after .lower) ≡ starting (before .lower)
+    pub stays : Stays width starting (before .lower) (after .lower)
     pub left : current (after .lower) ≡ without (pairs-of after) (starting (after .lower))
 
-  -- withhold sets the pair; it returns 20 when the field is not one of the store's or the number above 1,023,
-  -- else 21 when there are 32 pairs, and then changes nothing
+  -- withhold sets the pair, or returns 20 or 21 and changes nothing
   abbrev pub Withholds : {Y : Type 0} (before after : Withheld X) (f k : ℕ) → Result Y Refusal → Type 0
-  Withholds before after f k (Ok x) = Sets before after f k
+  Withholds before after f k (Ok x) = PairSet before after f k
   Withholds before after f k (Err e) =
-      (after ≡ before)
-      × (((Inside (width (before .lower)) f k → ⊥) × (number e ≡ 20))
-      ⊎ (Inside (width (before .lower)) f k × (length (pairs-of before) ≡ 32) × (number e ≡ 21)))
+      (after ≡ before) × RefusedWith (width (before .lower)) (length (pairs-of before)) f k (number e)

@@ -4,7 +4,8 @@ ghost use mathlib.Core.Path.{_≡_};
 ghost use mathlib.Core.List.{[], _∷_, _++_};
 ghost use lib.ListN.{length};
 ghost use Rattle.std.specs.Orderings.{When};
-ghost use Rattle.withheld.specs.Withholding.{pairs-of, without, Refreshed, Withholds};
+ghost use Rattle.withheld.specs.Withholding.{pairs-of, without, Withholds};
+ghost use Rattle.withheld.specs.Restarting.{Restarts};
 use crate::layer::Withheld;
 use crate::pair::Pair;
 use formula::Comparison;
@@ -66,7 +67,7 @@ impl<S: Store> Withheld<S> {
 
     // Begins anew: the lower store's start without the pairs.
     pub(crate) fn refresh(&mut self)
-        ensures { λ _. ⌜ Refreshed (S·Store .width) (S·Store .starting) (S·Store .current)
+        ensures { λ _. ⌜ Restarts (S·Store .width) (S·Store .starting) (S·Store .current)
             (now (self .entry)) (now (self .exit)) ⌝ }
     {
         self.lower.restart();

@@ -1,4 +1,4 @@
-use mathlib.Core.Path.{_≡_, refl, ap}
+use mathlib.Core.Path.{refl, ap}
 use Rattle.store.specs.Opens.{every-mark}
 use Rattle.register.specs.Registers.{is-row, both, numbers-of}
 use Rattle.register.proofs.Registers.{left-keeps}

@@ -1,4 +1,4 @@
-use mathlib.Core.Path.{_≡_, sym, ap, subst}
+use mathlib.Core.Path.{sym, ap, subst}
 use Rattle.store.specs.Opens.{every-mark}
 use Rattle.register.specs.Registers.{is-row, both, HasRows}
 use Rattle.register.proofs.Registers.{rows-are-marks}

@@ -3,13 +3,13 @@ use mathlib.Core.Path.{_≡_, sym, ap, subst, _∙_}
 use mathlib.Core.Bool.{_||_, _&&_}
 use native.Mathlib.Omega.{arith}
 use lib.Dec.{ltb, eqb}
-use lib.ListN.{length, getD}
+use lib.ListN.{getD}
 use Rattle.marks.proofs.Below.{below-none}
 use Rattle.marks.proofs.Counted.{values-taken, values-outside}
 use Rattle.store.specs.declared.row.Row.{Row}
 use Rattle.store.specs.Rows.{has}
 use Rattle.store.specs.Opens.{open-left}
-use Rattle.register.specs.Registers.{width-of, numbers-of, register-left}
+use Rattle.register.specs.Registers.{width-of, register-left}
 use Rattle.register.specs.Sounds.{left-of}
 use Rattle.register.proofs.Registers.{seen-in, seen-none, seen-add, seen-skip, seen-values}
 use Rattle.register.proofs.RegisterStore.seen.Needs as need

@@ -1,6 +1,5 @@
-use mathlib.Core.Path.{_≡_, sym, _∙_}
+use mathlib.Core.Path.{sym}
 use native.Mathlib.Omega.{arith}
-use borrow.Author.Needs.{needs}
 use Rattle.store.specs.Rows.{has}
 use Rattle.marks.proofs.Below.{length-zero, length-yes, length-no, length-le}
 use Rattle.store.proofs.Rows.{row-yes, row-no}

@@ -1,7 +1,6 @@
-use mathlib.Core.Path.{_≡_, sym, ap, _∙_}
+use mathlib.Core.Path.{sym, ap, _∙_}
 use mathlib.Core.Bool.{_&&_, false}
 use lib.ListN.{getD}
-use lib.Dec.{ltb}
 use Rattle.std.proofs.shelf.Tests.{lt-ltb, le-ltb}
 use Rattle.store.specs.Rows.{has}
 use Rattle.store.proofs.Rows.{row-past}

@@ -1,5 +1,4 @@
-use Prim.Native.Nat.{_<_}
-use mathlib.Core.Path.{_≡_, _∙_}
+use mathlib.Core.Path.{_∙_}
 use native.Mathlib.Omega.{arith}
 use Rattle.withheld.proofs.Withholding.{count-is, when-equal}
 use Rattle.withheld.proofs.layer.Withheld.is_full.Needs as need

@@ -1,4 +1,4 @@
-use mathlib.Core.Path.{_≡_, refl, sym}
+use mathlib.Core.Path.{refl, sym}
 use Rattle.withheld.proofs.Withholding.{without-none}
 use Rattle.withheld.proofs.layer.Withheld.new.Needs as need
 

@@ -1,4 +1,4 @@
-use Prim.Native.Nat.{_+_, _<_, _≤_}
+use Prim.Native.Nat.{_+_, _<_}
 use mathlib.Core.Path.{_≡_, refl, sym, ap, subst, _∙_}
 use native.Mathlib.Omega.{arith}
 use lib.ListN.{length, take, getD}
@@ -59,8 +59,7 @@ returns g c =
     let e : c .loop-i .i ≡ s .count = omega (arith, c .loop-i-test .left, c .loop-i .kept .i-end) in
     record {
       pairs = ap (λ n. take n (t .pairs)) (inv .1) ∙ ap (take (s .count)) (inv .0);
-      fields = inv .2 ∙ r .0;
-      start = inv .3 ∙ r .1;
+      stays = (inv .2 ∙ r .0, inv .3 ∙ r .1);
       left = inv .4
           ∙ ap (λ n. without (take n (t .pairs)) (st .starting (t .lower))) e
           ∙ ap (λ ps. without (take (s .count) ps) (st .starting (t .lower))) (inv .0)
