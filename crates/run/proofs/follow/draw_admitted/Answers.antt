@@ -1,5 +1,6 @@
 use Prim.Native.Nat.{ℕ, _+_, _-_, _*_, _<_, _≤_}
 use mathlib.Core.Path.{_≡_, refl, sym, ap, subst, _∙_}
+use mathlib.Core.Logic.{inr}
 use mathlib.Core.List.{List, [], _∷_}
 use native.Mathlib.Omega.{arith}
 use lib.ListN.{length, length-append}
@@ -13,54 +14,13 @@ use Rattle.meaning.specs.Traces.{took}
 use Rattle.meaning.specs.Draws.{Takes, Draws, draws, runs-dry, ran, dry}
 use Rattle.run.specs.declared.guide.Guide.the-variants.{Drawn}
 use Rattle.run.specs.Guides.{numbers, Guided, NoPick}
-use Rattle.run.specs.Answering.{lists, LongEnough, RefusesDraw, fields-differ, list-short, outcome-of, filled}
+use Rattle.run.specs.Answering.{lists, outcome-of}
 use Rattle.run.specs.Ways.{trail, Way, way}
 use Rattle.run.specs.Whole.{Along, end-of, Reported}
 use Rattle.run.proofs.Ways.{written-at}
 use Rattle.run.proofs.Tables.{fields-are, few-joins}
 use Rattle.run.proofs.Answering.{written-over, along-took, along-halt, numbers-over, guided-takes}
-use Rattle.run.proofs.follow.draw.Needs as need
-
-pub returns-then-fields-sheet : need.returns-then-fields-sheet
-returns-then-fields-sheet g c =
-    let st = g .S·Store in
-    let s = c .args .store .now in
-    let S = st .starting s in
-    let sh = c .args .sheet .now in
-    let t = tree-of sh in
-    let fuel = c .args .fuel in
-    let ps = c .args .picks .now in
-    let ws = c .args .widths .now in
-    let m = c .args .mark .now in
-    record {
-      same = (refl, refl);
-      current = ((λ e. absurd (omega (arith, e))), (λ e. refl));
-      left = (fields-differ refl (λ e. omega (arith, e, fields-are sh, c .fields .ensures, c .if-fields-sheet .taken)), record { picks = refl; widths = refl; mark = refl }, refl)
-    }
-
-pub returns-then-not-long-enough : need.returns-then-not-long-enough
-returns-then-not-long-enough g c =
-    let st = g .S·Store in
-    let s = c .args .store .now in
-    let S = st .starting s in
-    let sh = c .args .sheet .now in
-    let t = tree-of sh in
-    let fuel = c .args .fuel in
-    let ps = c .args .picks .now in
-    let ws = c .args .widths .now in
-    let m = c .args .mark .now in
-    let w = st .width s in
-    let wide : w ≡ sh .«field_count» = omega (arith, c .fields .ensures, c .if-fields-sheet .left) in
-    let same-fields : w ≡ fields-of t = wide ∙ sym (fields-are sh) in
-    let l = lists ps ws m (length (c .args .goals .now)) (length (c .args .frames .now)) in
-    let B = subst (λ k. MarksOf k S) same-fields (st .sound .started s) in
-    record {
-      same = (refl, refl);
-      current = ((λ e. absurd (omega (arith, e))), (λ e. refl));
-      left =
-        (list-short refl same-fields (subst (λ k. LongEnough fuel k 0 l → ⊥) (sym wide) (c .if-not-long-enough .ensures tt)),
-         record { picks = refl; widths = refl; mark = refl }, refl)
-    }
+use Rattle.run.proofs.follow.draw_admitted.Needs as need
 
 pub returns-in-Some : need.returns-in-Some
 returns-in-Some g c =
@@ -74,8 +34,8 @@ returns-in-Some g c =
     let ws = c .args .widths .now in
     let m = c .args .mark .now in
     let w = st .width s in
-    let wide : w ≡ sh .«field_count» = omega (arith, c .fields .ensures, c .if-fields-sheet .left) in
-    let same-fields : w ≡ fields-of t = wide ∙ sym (fields-are sh) in
+    let same-fields = c .pre .fields in
+    let wide : w ≡ sh .«field_count» = same-fields ∙ fields-are sh in
     let l = lists ps ws m (length (c .args .goals .now)) (length (c .args .frames .now)) in
     let B = subst (λ k. MarksOf k S) same-fields (st .sound .started s) in
     let waits = g .R·Source .waiting in
@@ -83,7 +43,7 @@ returns-in-Some g c =
     let rest = waits (c .along-end .last .source) in
     let z = way Drawn ps ws 0 ns in
     let y = way Drawn (c .along-end .last .picks) (c .along-end .last .widths) (c .along-end .last .at) rest in
-    let long = subst (λ k. LongEnough fuel k 0 l) (sym wide) (c .if-not-long-enough .ensures tt) in
+    let long = c .pre .long in
     let end = c .along-end .result in
     let went = c .along-end .ensures .left in
     let kept = c .along-end .ensures .same in
@@ -124,8 +84,8 @@ returns-in-None g c =
     let ws = c .args .widths .now in
     let m = c .args .mark .now in
     let w = st .width s in
-    let wide : w ≡ sh .«field_count» = omega (arith, c .fields .ensures, c .if-fields-sheet .left) in
-    let same-fields : w ≡ fields-of t = wide ∙ sym (fields-are sh) in
+    let same-fields = c .pre .fields in
+    let wide : w ≡ sh .«field_count» = same-fields ∙ fields-are sh in
     let l = lists ps ws m (length (c .args .goals .now)) (length (c .args .frames .now)) in
     let B = subst (λ k. MarksOf k S) same-fields (st .sound .started s) in
     let waits = g .R·Source .waiting in
@@ -133,7 +93,7 @@ returns-in-None g c =
     let rest = waits (c .along-end .last .source) in
     let z = way Drawn ps ws 0 ns in
     let y = way Drawn (c .along-end .last .picks) (c .along-end .last .widths) (c .along-end .last .at) rest in
-    let long = subst (λ k. LongEnough fuel k 0 l) (sym wide) (c .if-not-long-enough .ensures tt) in
+    let long = c .pre .long in
     let end = c .along-end .result in
     let went = c .along-end .ensures .left in
     let kept = c .along-end .ensures .same in
@@ -164,3 +124,15 @@ returns-in-None g c =
            marked = told .1
          })
     }
+
+pub along-end-requires : need.along-end-requires
+along-end-requires g c κs =
+    let sh = c .args .sheet .now in
+    let long = c .pre .long in
+    record { fields = c .pre .fields ∙ fields-are sh; goals = long .goals; frames = long .frames; picks = long .picks; widths = long .widths; begun = refl }
+
+pub report-requires : need.report-requires
+report-requires g c κs =
+    let sh = c .args .sheet .now in
+    let wide = c .pre .fields ∙ fields-are sh in
+    record { few = omega (arith, sh .«some_fields»); room = omega (arith, wide, c .pre .long .mark) }
