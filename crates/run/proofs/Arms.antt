@@ -35,7 +35,8 @@ use Rattle.run.specs.Frames.{arguments-of, argument-of}
 use Rattle.run.specs.Ways.{Way, Took, Halt, Fits, Room, Chosen}
 use Rattle.run.specs.Settling.{Settled, Settling}
 use Rattle.run.specs.Comparing.{Compared, Comparing}
-use Rattle.run.specs.Goals.{Passing, Passed, Solving, Leads}
+use Rattle.run.specs.declared.turn.Sides.the-variants.{Both}
+use Rattle.run.specs.Goals.{Passing, Passed, Solving, Leads, Sided}
 use Rattle.run.proofs.Ways.{took-map, took-none, halt-on, fits-on}
 use Rattle.run.proofs.Comparing.{resolves-alive}
 use Rattle.run.proofs.Turns.{solves-some}
@@ -87,12 +88,26 @@ module _ (rules : List Rule) (e : List Argument) (b : Bool) (rest : List Waiting
     pub both-led : b ≡ wants j → Took z (Leads rules (goal e (join j p q F G) b ∷ rest) u S (goal e F b ∷ goal e G b ∷ rest) u S) z
     both-led h = took-none (λ v o s. step-both rules h s)
 
+    -- both sides, or branch 1
+    pub sides-led :
+        (c : Bool) (y : Way)
+        → Sided j p q b z (Some (Both c)) y
+        → Took z (Leads rules (goal e (join j p q F G) b ∷ rest) u S (goal e F c ∷ goal e G b ∷ rest) u S) y
+    sides-led c y (inl h) =
+        subst (λ r. Took z (Leads rules (goal e (join j p q F G) b ∷ rest) u S (goal e F r ∷ goal e G b ∷ rest) u S) y) (sym (h .1))
+        (subst (λ r. Took z (Leads rules (goal e (join j p q F G) b ∷ rest) u S (goal e F b ∷ goal e G b ∷ rest) u S) r) (sym (h .2)) (both-led (h .0)))
+    sides-led c y (inr h) =
+        subst (λ r. Took z (Leads rules (goal e (join j p q F G) b ∷ rest) u S (goal e F r ∷ goal e G b ∷ rest) u S) y) (sym (h .1))
+        (record {
+          trace = took 1 (branch p q) ∷ [];
+          does = λ v o s. step-right rules (h .0) s;
+          guided = (y .guide, h .2 .1, refl);
+          end = h .2 .2
+        })
+
     module _ (h : b ≢ wants j) (y : Way) where
       pub left-led : Chosen (branch p q) z (Some 0) y → Took z (Leads rules (goal e (join j p q F G) b ∷ rest) u S (goal e F b ∷ rest) u S) y
       left-led c = record { trace = took 0 (branch p q) ∷ []; does = λ v o s. step-left rules h s; guided = (y .guide, c .1, refl); end = c .2 }
-
-      pub right-led : Chosen (branch p q) z (Some 1) y → Took z (Leads rules (goal e (join j p q F G) b ∷ rest) u S (goal e F (not b) ∷ goal e G b ∷ rest) u S) y
-      right-led c = record { trace = took 1 (branch p q) ∷ []; does = λ v o s. step-right rules h s; guided = (y .guide, c .1, refl); end = c .2 }
 
       some-left : (v : Trace) × Solving rules (goal e (join j p q F G) b ∷ rest) u S (took 0 (branch p q) ∷ v)
       some-left = let k = solves-some rules (goal e F b ∷ rest) S C (live u S) x (λ m i. i) in (k .0, (k .1, step-left rules h (k .2)))

@@ -36,7 +36,9 @@ use Rattle.run.specs.declared.goal.Frame.{Frame}
 use Rattle.run.specs.declared.turn.Depth.{Depth}
 use Rattle.run.specs.Frames.{arguments-of, FrameOkay}
 use Rattle.run.specs.Ways.{Way, Took}
-use Rattle.run.specs.Goals.{no-goal, no-frame, goal-of, pending, Spot, spot, stack, Stood, Good, Fit, mass, weight, Leads, Moves}
+use Rattle.run.specs.declared.turn.Turn.{Turn}
+use Rattle.run.specs.declared.turn.Turn.the-variants.{Moved, Dead, Spent, Halted}
+use Rattle.run.specs.Goals.{no-goal, no-frame, goal-of, pending, Spot, spot, stack, Stood, Good, Fit, mass, weight, Leads, Moves, Turned, Entered}
 use Rattle.run.proofs.Comparing.{first, first-fair}
 use Rattle.run.proofs.Tables.{NodeOkay, entry-okay, line-joins, body-size}
 
@@ -337,3 +339,16 @@ module _ (s : Sheet) (w : ℕ) (wide : w ≡ s .«field_count») (gs : List Goal
         let w₀ = waiting rest in
         let few : length rest ≡ n - 1 = pending-length s gs fs (n - 1) in
         omega (arith, fit .1)
+
+-- a rule is entered, or no fuel is left
+pub entered :
+    (s : Sheet) (gs : List Goal) (fs : List Frame) (n u : ℕ) (S P : Marks) (z y : Way) (q : Spot) (x : Frame) (k : ℕ) (b : Bool) (p : Spot)
+    → (Entered x k b p Moved q → Turned s (pending s gs fs n) u S z Moved q P y)
+    → (Entered x k b p Spent q → Turned s (pending s gs fs n) u S z Spent q P y)
+    → (r : Turn)
+    → Entered x k b p r q
+    → Turned s (pending s gs fs n) u S z r q P y
+entered s gs fs n u S P z y q x k b p moved out Moved h = moved h
+entered s gs fs n u S P z y q x k b p moved out Spent h = out h
+entered s gs fs n u S P z y q x k b p moved out Dead h = absurd h
+entered s gs fs n u S P z y q x k b p moved out Halted h = absurd h

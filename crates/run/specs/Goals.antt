@@ -1,18 +1,20 @@
 -- For the contracts of inner functions: the stack of goals as the goals of the definitions, what the lists hold at
 -- each turn, and what one turn comes to.
-use Prim.Native.Nat.{ℕ, zero, suc, _+_, _*_, _<_, _≤_}
+use Prim.Native.Nat.{ℕ, zero, suc, _+_, _-_, _*_, _<_, _≤_}
 use mathlib.Core.Path.{_≡_}
-use mathlib.Core.Bool.{Bool, true, false}
+use mathlib.Core.Logic.{_≢_, _⊎_}
+use mathlib.Core.Bool.{Bool, true, false, not}
 use mathlib.Core.List.{List, [], _∷_, _++_, map}
-use lib.ListN.{length, getD, take}
+use lib.ListN.{length, getD, set, take}
 use Rattle.std.specs.declared.option.Option.{Option}
 use Rattle.std.specs.declared.option.Option.the-variants.{Some, None}
+use Rattle.formula.specs.declared.Join.{Join}
 use Rattle.formula.specs.Trees.{Rule}
 use Rattle.formula.specs.Trees.{Term as TermTree}
 use Rattle.marks.specs.Sets.{Marks}
 use Rattle.marks.specs.Counted.{some}
-use Rattle.meaning.specs.Terms.{rules-of}
-use Rattle.meaning.specs.Traces.{Trace}
+use Rattle.meaning.specs.Terms.{rules-of, wants}
+use Rattle.meaning.specs.Traces.{branch, Trace}
 use Rattle.meaning.specs.Matching.{Argument, Passes, State, live, dead, spent}
 use Rattle.meaning.specs.Pending.{goal, Solves, load}
 use Rattle.meaning.specs.Pending.{Goal as Waiting}
@@ -27,8 +29,10 @@ use Rattle.run.specs.declared.goal.Frame.{Frame}
 use Rattle.run.specs.declared.turn.Depth.{Depth}
 use Rattle.run.specs.declared.turn.Turn.{Turn}
 use Rattle.run.specs.declared.turn.Turn.the-variants.{Moved, Dead, Spent, Halted}
+use Rattle.run.specs.declared.turn.Sides.{Sides}
+use Rattle.run.specs.declared.turn.Sides.the-variants.{Left, Both}
 use Rattle.run.specs.Frames.{arguments-of, FrameOkay, TermOkay}
-use Rattle.run.specs.Ways.{Way, Took, Halt}
+use Rattle.run.specs.Ways.{Way, Took, Halt, Chosen}
 
 -- Calls
 
@@ -146,3 +150,26 @@ Turned s gs n S z Moved p P y = Moves s gs n S z p P y
 Turned s gs n S z Dead p P y = Took z (λ v. Solves (rules-of (tree-of s)) gs (live n S) v dead) y
 Turned s gs n S z Spent p P y = Took z (λ v. Solves (rules-of (tree-of s)) gs (live n S) v spent) y
 Turned s gs n S z Halted p P y = Halt z (Solving (rules-of (tree-of s)) gs n S) y
+
+-- Joins and calls
+
+-- the sides of a join that the target b asks for, with the choice made for them
+abbrev pub Sided : Join → (v w : ℕ) → Bool → Way → Option Sides → Way → Type 0
+-- no pick is told
+Sided j v w b z None y = (b ≢ wants j) × Chosen (branch v w) z None y
+-- branch 0: the left side meets the target
+Sided j v w b z (Some Left) y = (b ≢ wants j) × Chosen (branch v w) z (Some 0) y
+-- both sides meet a target that the join wants; or branch 1: the left side fails the target, and the right meets it
+Sided j v w b z (Some (Both c)) y =
+    ((b ≡ wants j) × (c ≡ b) × (y ≡ z)) ⊎ ((b ≢ wants j) × (c ≡ not b) × Chosen (branch v w) z (Some 1) y)
+
+-- a rule entered with the frame f: its formula waits with a frame of its own, and one fuel is spent; or none is left
+abbrev pub Entered : Frame → (formula : ℕ) → Bool → Spot → Turn → Spot → Type 0
+Entered f k b p Moved q =
+    (0 < p .depth .fuel)
+    × (q .goals ≡ set (p .goals) (p .depth .goals) (record { formula = k; target = b; frame = p .depth .frames }))
+    × (q .frames ≡ set (p .frames) (p .depth .frames) f)
+    × (q .depth ≡ record { goals = p .depth .goals + 1; frames = p .depth .frames + 1; fuel = p .depth .fuel - 1 })
+Entered f k b p Spent q = p .depth .fuel ≡ 0
+Entered f k b p Dead q = ⊥
+Entered f k b p Halted q = ⊥

@@ -1,14 +1,15 @@
 // One goal off the stack.
 ghost use Prim.Native.Nat.{ℕ, _+_, _<_, _≤_};
 ghost use mathlib.Core.Path.{_≡_};
+ghost use mathlib.Core.Logic.{_≢_};
 ghost use mathlib.Core.Bool.{true};
 ghost use lib.ListN.{length, set};
 ghost use Rattle.marks.specs.Counted.{some};
 ghost use Rattle.meaning.specs.Terms.{wants as wantsOf, rules-of};
 ghost use Rattle.sheet.specs.Sheets.{tree-of};
-ghost use Rattle.run.specs.Ways.{way, Fits};
+ghost use Rattle.run.specs.Ways.{way, trail, Room, Fits};
 ghost use Rattle.run.specs.Settling.{Narrows};
-ghost use Rattle.run.specs.Goals.{Fit, spot, stack, Solving, Turned};
+ghost use Rattle.run.specs.Goals.{Fit, spot, stack, Solving, Sided, Entered, Turned};
 use crate::argument::argument;
 use crate::compare::compare;
 use crate::goal::{Frame, Goal};
@@ -58,6 +59,51 @@ fn push(goals: &mut [Goal], d: &mut Depth, g: Goal)
     d.goals += 1;
 }
 
+// The sides of a join to be matched: the left alone, or the left with that target and then the right.
+#[derive(Clone, Copy)]
+pub(crate) enum Sides {
+    Left,
+    Both(bool),
+}
+
+// The sides that a target asks for: where the join does not want it, a choice between two branches.
+fn ask<R: Source>(word: Join, v: u16, w: u16, target: bool, picks: &mut [u16], widths: &mut [u16], at: &mut usize, guide: Guide, source: &mut R) -> Option<Sides>
+    requires usable { ⌜ 0 < v + w ⌝ }
+    requires room { ⌜ (target ≢ wantsOf word → Room 1 (trail (now picks) (now widths) (now at))) ⌝ }
+    ensures { λ r. ⌜ Sided word v w target (way guide (now (picks .entry)) (now (widths .entry)) (now (at .entry)) (waiting (now (source .entry)))) r (way guide (now (picks .exit)) (now (widths .exit)) (now (at .exit)) (waiting (now (source .exit)))) ⌝ }
+{
+    if wants(word) == target {
+        return Some(Sides::Both(target));
+    }
+    match choose(Choice::Branch(v, w), picks, widths, at, guide, source) {
+        None => None,
+        Some(pick) => {
+            if pick == 0 {
+                return Some(Sides::Left);
+            }
+            Some(Sides::Both(!target))
+        }
+    }
+}
+
+// Enters a called rule with its frame: spends one fuel, or is spent.
+fn enter(goals: &mut [Goal], frames: &mut [Frame], d: &mut Depth, f: Frame, formula: u8, target: bool) -> Turn
+    requires goals { ⌜ now d .goals < length (now goals) ⌝ }
+    requires frames { ⌜ now d .frames + now d .fuel ≤ length (now frames) ⌝ }
+    requires few { ⌜ now d .frames + now d .fuel ≤ 256 ⌝ }
+    ensures { λ r. ⌜ Entered f formula target (spot (now (goals .entry)) (now (frames .entry)) (now (d .entry))) r (spot (now (goals .exit)) (now (frames .exit)) (now (d .exit))) ⌝ }
+{
+    if d.fuel == 0 {
+        return Turn::Spent;
+    }
+    let frame = d.frames;
+    frames[frame as usize] = f;
+    push(goals, d, Goal { formula, target, frame });
+    d.frames = frame + 1;
+    d.fuel -= 1;
+    Turn::Moved
+}
+
 // Takes the next goal off the stack and matches it, or puts its parts on the stack.
 pub(crate) fn step<S: Store, R: Source>(sheet: &Sheet, store: &mut S, goals: &mut [Goal], frames: &mut [Frame], d: &mut Depth, picks: &mut [u16], widths: &mut [u16], at: &mut usize, guide: Guide, source: &mut R) -> Turn
     requires fields { ⌜ width (now store) ≡ now sheet .«field_count» ⌝ }
@@ -94,37 +140,21 @@ pub(crate) fn step<S: Store, R: Source>(sheet: &Sheet, store: &mut S, goals: &mu
             }
         },
         Node::Join(word, v, w, l, r) => {
-            if wants(word) == g.target {
-                push(goals, d, Goal { formula: r, target: g.target, frame: g.frame });
-                push(goals, d, Goal { formula: l, target: g.target, frame: g.frame });
-                return Turn::Moved;
-            }
-            match choose(Choice::Branch(v, w), picks, widths, at, guide, source) {
-                None => Turn::Halted,
-                Some(p) => {
-                    if p == 0 {
-                        push(goals, d, Goal { formula: l, target: g.target, frame: g.frame });
-                        return Turn::Moved;
-                    }
+            let Some(asked) = ask(word, v, w, g.target, picks, widths, at, guide, source) else {
+                return Turn::Halted;
+            };
+            match asked {
+                Sides::Left => push(goals, d, Goal { formula: l, target: g.target, frame: g.frame }),
+                Sides::Both(target) => {
                     push(goals, d, Goal { formula: r, target: g.target, frame: g.frame });
-                    push(goals, d, Goal { formula: l, target: !g.target, frame: g.frame });
-                    Turn::Moved
+                    push(goals, d, Goal { formula: l, target, frame: g.frame });
                 }
             }
+            Turn::Moved
         }
         Node::Call(rule, n, ts) => match pass(store, frames[g.frame as usize], ts, n, picks, widths, at, guide, source) {
             None => Turn::Halted,
-            Some(f) => {
-                if d.fuel == 0 {
-                    return Turn::Spent;
-                }
-                let k = d.frames;
-                frames[k as usize] = f;
-                push(goals, d, Goal { formula: sheet.lines[rule as usize].body, target: g.target, frame: k });
-                d.frames = k + 1;
-                d.fuel -= 1;
-                Turn::Moved
-            }
+            Some(f) => enter(goals, frames, d, f, sheet.lines[rule as usize].body, g.target),
         },
     }
 }

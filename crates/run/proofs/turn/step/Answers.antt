@@ -18,12 +18,13 @@ use Rattle.sheet.specs.Sheets.{tree-of}
 use Rattle.run.specs.Frames.{arguments-of, argument-of}
 use Rattle.run.specs.Ways.{way, Fits, Took, Halt, Chosen}
 use Rattle.run.specs.Comparing.{Compared}
-use Rattle.run.specs.Goals.{Solving, stack, spot, terms, pending}
+use Rattle.run.specs.declared.turn.Turn.the-variants.{Moved, Spent}
+use Rattle.run.specs.Goals.{Solving, stack, spot, terms, pending, Sided, Entered, Turned}
 use Rattle.run.proofs.Settling.{some-alive}
 use Rattle.run.proofs.Frames.{known-in}
 use Rattle.run.proofs.Tables.{body-is}
-use Rattle.run.proofs.Turns.{top, framed, above, rest, stands, opened, node-okay, frame-okay, none-put, one-put, two-put, call-put, depth, two-room}
-use Rattle.run.proofs.Arms.{negate-led, compare-fits, compare-halt, compare-led, compare-dead, pick-fits, pick-halt, pick-led, both-led, left-led, right-led, join-halt, join-fits, call-fits, call-halt, call-led, call-spent, both-wants, one-wants}
+use Rattle.run.proofs.Turns.{top, framed, above, rest, stands, opened, node-okay, frame-okay, none-put, one-put, two-put, call-put, depth, two-room, entered}
+use Rattle.run.proofs.Arms.{negate-led, compare-fits, compare-halt, compare-led, compare-dead, pick-fits, pick-halt, pick-led, left-led, sides-led, join-halt, join-fits, call-fits, call-halt, call-led, call-spent}
 use Rattle.run.proofs.turn.step.Needs as need
 
 pub index-sheet-g : need.index-sheet-g
@@ -364,248 +365,6 @@ returns-in-Some-settle g c =
       left = one-put sh w wide gs fs n f u fit more S P z y (k .alive) (whole tree node) b is (c .in-Pick .f) b (c .push-in-Some-settle .last .goals) (c .push-in-Some-settle .last .d) (ok .1) (omega arith) (omega arith) (c .push-in-Some-settle .ensures .goals) (c .push-in-Some-settle .ensures .depth) (pick-led rules e b below u S C x w z (name-of (c .in-Pick .x)) (tree (c .in-Pick .f)) (c .argument .result) (a .is) P y _ k)
     }
 
-pub push-requires-then-wants-g-2 : need.push-requires-then-wants-g-2
-push-requires-then-wants-g-2 g c κs =
-    let st = g .S·Store in
-    let waits = g .R·Source .waiting in
-    let guide = c .args .guide in
-    let s = c .args .store .now in
-    let w = st .width s in
-    let S = st .current s in
-    let z = way guide (c .args .picks .now) (c .args .widths .now) (c .args .at .now) (waits (c .args .source .now)) in
-    let sh = c .args .sheet .now in
-    let wide = c .pre .fields in
-    let gs = c .args .goals .now in
-    let fs = c .args .frames .now in
-    let n = c .args .d .now .goals in
-    let f = c .args .d .now .frames in
-    let u = c .args .d .now .fuel in
-    let rules = rules-of (tree-of sh) in
-    let tree = formula-at (sh .nodes) in
-    let C = counted w S (st .sound .left s) in
-    let x = some-alive w S (c .pre .some) in
-    let fit = c .pre .fit in
-    let more = c .pre .more in
-    let b = top sh w wide gs fs n f u fit more .target in
-    let e = above sh w wide gs fs n f u fit more in
-    let below = rest sh w wide gs fs n f u fit more in
-    let node = Join (c .in-Join .word) (c .in-Join .v) (c .in-Join .w) (c .in-Join .l) (c .in-Join .r) in
-    let is = opened sh w wide gs fs n f u fit more node (c .in-Join .is) in
-    let ok = node-okay sh w wide gs fs n f u fit more node (c .in-Join .is) in
-    let room = two-room sh w wide gs fs n f u fit more S S z z (c .pre .some) (whole tree node) b is (omega arith) in
-    let eg = ap length (c .push-then-wants-g .ensures .goals) ∙ length-set gs (n - 1) _ in
-    let ed = ap (λ q. q .goals) (c .push-then-wants-g .ensures .depth) in
-    omega arith
-
-pub returns-then-wants-g : need.returns-then-wants-g
-returns-then-wants-g g c =
-    let st = g .S·Store in
-    let waits = g .R·Source .waiting in
-    let guide = c .args .guide in
-    let s = c .args .store .now in
-    let w = st .width s in
-    let S = st .current s in
-    let z = way guide (c .args .picks .now) (c .args .widths .now) (c .args .at .now) (waits (c .args .source .now)) in
-    let sh = c .args .sheet .now in
-    let wide = c .pre .fields in
-    let gs = c .args .goals .now in
-    let fs = c .args .frames .now in
-    let n = c .args .d .now .goals in
-    let f = c .args .d .now .frames in
-    let u = c .args .d .now .fuel in
-    let rules = rules-of (tree-of sh) in
-    let tree = formula-at (sh .nodes) in
-    let C = counted w S (st .sound .left s) in
-    let x = some-alive w S (c .pre .some) in
-    let fit = c .pre .fit in
-    let more = c .pre .more in
-    let b = top sh w wide gs fs n f u fit more .target in
-    let e = above sh w wide gs fs n f u fit more in
-    let below = rest sh w wide gs fs n f u fit more in
-    let node = Join (c .in-Join .word) (c .in-Join .v) (c .in-Join .w) (c .in-Join .l) (c .in-Join .r) in
-    let is = opened sh w wide gs fs n f u fit more node (c .in-Join .is) in
-    let ok = node-okay sh w wide gs fs n f u fit more node (c .in-Join .is) in
-    let h = subst (λ q. b ≡ q) (c .wants .ensures) (both-wants (c .wants .result) b (c .if-wants-g .taken)) in
-    record {
-      same = (refl, refl, λ m h. h);
-      left = two-put sh w wide gs fs n f u fit more S S z z (c .pre .some) (whole tree node) b is (c .in-Join .l) (c .in-Join .r) b b (c .push-then-wants-g .last .goals) (c .push-then-wants-g-2 .last .goals) (c .push-then-wants-g .last .d) (c .push-then-wants-g-2 .last .d) (ok .1) (ok .2) (omega arith) (omega arith) (c .push-then-wants-g .ensures .goals) (c .push-then-wants-g .ensures .depth) (c .push-then-wants-g-2 .ensures .goals) (c .push-then-wants-g-2 .ensures .depth) (both-led rules e b below u S C x w z (c .in-Join .word) (c .in-Join .v) (c .in-Join .w) (tree (c .in-Join .l)) (tree (c .in-Join .r)) h)
-    }
-
-pub choose-requires : need.choose-requires
-choose-requires g c κs =
-    let st = g .S·Store in
-    let waits = g .R·Source .waiting in
-    let guide = c .args .guide in
-    let s = c .args .store .now in
-    let w = st .width s in
-    let S = st .current s in
-    let z = way guide (c .args .picks .now) (c .args .widths .now) (c .args .at .now) (waits (c .args .source .now)) in
-    let sh = c .args .sheet .now in
-    let wide = c .pre .fields in
-    let gs = c .args .goals .now in
-    let fs = c .args .frames .now in
-    let n = c .args .d .now .goals in
-    let f = c .args .d .now .frames in
-    let u = c .args .d .now .fuel in
-    let rules = rules-of (tree-of sh) in
-    let tree = formula-at (sh .nodes) in
-    let C = counted w S (st .sound .left s) in
-    let x = some-alive w S (c .pre .some) in
-    let fit = c .pre .fit in
-    let more = c .pre .more in
-    let b = top sh w wide gs fs n f u fit more .target in
-    let e = above sh w wide gs fs n f u fit more in
-    let below = rest sh w wide gs fs n f u fit more in
-    let node = Join (c .in-Join .word) (c .in-Join .v) (c .in-Join .w) (c .in-Join .l) (c .in-Join .r) in
-    let is = opened sh w wide gs fs n f u fit more node (c .in-Join .is) in
-    let ok = node-okay sh w wide gs fs n f u fit more node (c .in-Join .is) in
-    let h = subst (λ q. b ≢ q) (c .wants .ensures) (one-wants (c .wants .result) b (c .if-wants-g .left)) in
-    record {
-      usable = omega (arith, ok .0);
-      room = join-fits rules e b below u S C x w z (c .in-Join .word) (c .in-Join .v) (c .in-Join .w) (tree (c .in-Join .l)) (tree (c .in-Join .r)) h (subst (λ q. Fits z (Solving rules q u S)) is (c .pre .room))
-    }
-
-pub returns-in-None-choose : need.returns-in-None-choose
-returns-in-None-choose g c =
-    let st = g .S·Store in
-    let waits = g .R·Source .waiting in
-    let guide = c .args .guide in
-    let s = c .args .store .now in
-    let w = st .width s in
-    let S = st .current s in
-    let z = way guide (c .args .picks .now) (c .args .widths .now) (c .args .at .now) (waits (c .args .source .now)) in
-    let sh = c .args .sheet .now in
-    let wide = c .pre .fields in
-    let gs = c .args .goals .now in
-    let fs = c .args .frames .now in
-    let n = c .args .d .now .goals in
-    let f = c .args .d .now .frames in
-    let u = c .args .d .now .fuel in
-    let rules = rules-of (tree-of sh) in
-    let tree = formula-at (sh .nodes) in
-    let C = counted w S (st .sound .left s) in
-    let x = some-alive w S (c .pre .some) in
-    let fit = c .pre .fit in
-    let more = c .pre .more in
-    let b = top sh w wide gs fs n f u fit more .target in
-    let e = above sh w wide gs fs n f u fit more in
-    let below = rest sh w wide gs fs n f u fit more in
-    let node = Join (c .in-Join .word) (c .in-Join .v) (c .in-Join .w) (c .in-Join .l) (c .in-Join .r) in
-    let is = opened sh w wide gs fs n f u fit more node (c .in-Join .is) in
-    let ok = node-okay sh w wide gs fs n f u fit more node (c .in-Join .is) in
-    let y = way guide (c .choose .last .picks) (c .choose .last .widths) (c .choose .last .at) (waits (c .choose .last .source)) in
-    let h = subst (λ q. b ≢ q) (c .wants .ensures) (one-wants (c .wants .result) b (c .if-wants-g .left)) in
-    record {
-      same = (refl, refl, λ m h. h);
-      left = subst (λ q. Halt z (Solving rules q u S) y) (sym is) (join-halt rules e b below u S C x w z (c .in-Join .word) (c .in-Join .v) (c .in-Join .w) (tree (c .in-Join .l)) (tree (c .in-Join .r)) h y (c .in-None-choose .ensures tt))
-    }
-
-pub returns-then-p-eq0 : need.returns-then-p-eq0
-returns-then-p-eq0 g c =
-    let st = g .S·Store in
-    let waits = g .R·Source .waiting in
-    let guide = c .args .guide in
-    let s = c .args .store .now in
-    let w = st .width s in
-    let S = st .current s in
-    let z = way guide (c .args .picks .now) (c .args .widths .now) (c .args .at .now) (waits (c .args .source .now)) in
-    let sh = c .args .sheet .now in
-    let wide = c .pre .fields in
-    let gs = c .args .goals .now in
-    let fs = c .args .frames .now in
-    let n = c .args .d .now .goals in
-    let f = c .args .d .now .frames in
-    let u = c .args .d .now .fuel in
-    let rules = rules-of (tree-of sh) in
-    let tree = formula-at (sh .nodes) in
-    let C = counted w S (st .sound .left s) in
-    let x = some-alive w S (c .pre .some) in
-    let fit = c .pre .fit in
-    let more = c .pre .more in
-    let b = top sh w wide gs fs n f u fit more .target in
-    let e = above sh w wide gs fs n f u fit more in
-    let below = rest sh w wide gs fs n f u fit more in
-    let node = Join (c .in-Join .word) (c .in-Join .v) (c .in-Join .w) (c .in-Join .l) (c .in-Join .r) in
-    let is = opened sh w wide gs fs n f u fit more node (c .in-Join .is) in
-    let ok = node-okay sh w wide gs fs n f u fit more node (c .in-Join .is) in
-    let y = way guide (c .choose .last .picks) (c .choose .last .widths) (c .choose .last .at) (waits (c .choose .last .source)) in
-    let h = subst (λ q. b ≢ q) (c .wants .ensures) (one-wants (c .wants .result) b (c .if-wants-g .left)) in
-    let k = subst (λ q. Chosen (branch (c .in-Join .v) (c .in-Join .w)) z (Some q) y) (c .if-p-eq0 .taken) (c .in-Some-choose .ensures tt) in
-    record {
-      same = (refl, refl, λ m h. h);
-      left = one-put sh w wide gs fs n f u fit more S S z y (c .pre .some) (whole tree node) b is (c .in-Join .l) b (c .push-then-p-eq0 .last .goals) (c .push-then-p-eq0 .last .d) (ok .1) (omega arith) (omega arith) (c .push-then-p-eq0 .ensures .goals) (c .push-then-p-eq0 .ensures .depth) (left-led rules e b below u S C x w z (c .in-Join .word) (c .in-Join .v) (c .in-Join .w) (tree (c .in-Join .l)) (tree (c .in-Join .r)) h y k)
-    }
-
-pub push-requires-in-Some-choose-2 : need.push-requires-in-Some-choose-2
-push-requires-in-Some-choose-2 g c κs =
-    let st = g .S·Store in
-    let waits = g .R·Source .waiting in
-    let guide = c .args .guide in
-    let s = c .args .store .now in
-    let w = st .width s in
-    let S = st .current s in
-    let z = way guide (c .args .picks .now) (c .args .widths .now) (c .args .at .now) (waits (c .args .source .now)) in
-    let sh = c .args .sheet .now in
-    let wide = c .pre .fields in
-    let gs = c .args .goals .now in
-    let fs = c .args .frames .now in
-    let n = c .args .d .now .goals in
-    let f = c .args .d .now .frames in
-    let u = c .args .d .now .fuel in
-    let rules = rules-of (tree-of sh) in
-    let tree = formula-at (sh .nodes) in
-    let C = counted w S (st .sound .left s) in
-    let x = some-alive w S (c .pre .some) in
-    let fit = c .pre .fit in
-    let more = c .pre .more in
-    let b = top sh w wide gs fs n f u fit more .target in
-    let e = above sh w wide gs fs n f u fit more in
-    let below = rest sh w wide gs fs n f u fit more in
-    let node = Join (c .in-Join .word) (c .in-Join .v) (c .in-Join .w) (c .in-Join .l) (c .in-Join .r) in
-    let is = opened sh w wide gs fs n f u fit more node (c .in-Join .is) in
-    let ok = node-okay sh w wide gs fs n f u fit more node (c .in-Join .is) in
-    let room = two-room sh w wide gs fs n f u fit more S S z z (c .pre .some) (whole tree node) b is (omega arith) in
-    let eg = ap length (c .push-in-Some-choose .ensures .goals) ∙ length-set gs (n - 1) _ in
-    let ed = ap (λ q. q .goals) (c .push-in-Some-choose .ensures .depth) in
-    omega arith
-
-pub returns-else-p-eq0 : need.returns-else-p-eq0
-returns-else-p-eq0 g c =
-    let st = g .S·Store in
-    let waits = g .R·Source .waiting in
-    let guide = c .args .guide in
-    let s = c .args .store .now in
-    let w = st .width s in
-    let S = st .current s in
-    let z = way guide (c .args .picks .now) (c .args .widths .now) (c .args .at .now) (waits (c .args .source .now)) in
-    let sh = c .args .sheet .now in
-    let wide = c .pre .fields in
-    let gs = c .args .goals .now in
-    let fs = c .args .frames .now in
-    let n = c .args .d .now .goals in
-    let f = c .args .d .now .frames in
-    let u = c .args .d .now .fuel in
-    let rules = rules-of (tree-of sh) in
-    let tree = formula-at (sh .nodes) in
-    let C = counted w S (st .sound .left s) in
-    let x = some-alive w S (c .pre .some) in
-    let fit = c .pre .fit in
-    let more = c .pre .more in
-    let b = top sh w wide gs fs n f u fit more .target in
-    let e = above sh w wide gs fs n f u fit more in
-    let below = rest sh w wide gs fs n f u fit more in
-    let node = Join (c .in-Join .word) (c .in-Join .v) (c .in-Join .w) (c .in-Join .l) (c .in-Join .r) in
-    let is = opened sh w wide gs fs n f u fit more node (c .in-Join .is) in
-    let ok = node-okay sh w wide gs fs n f u fit more node (c .in-Join .is) in
-    let y = way guide (c .choose .last .picks) (c .choose .last .widths) (c .choose .last .at) (waits (c .choose .last .source)) in
-    let h = subst (λ q. b ≢ q) (c .wants .ensures) (one-wants (c .wants .result) b (c .if-wants-g .left)) in
-    let one : c .in-Some-choose .p ≡ 1 = omega (arith, c .in-Some-choose .ensures tt .0, c .if-p-eq0 .left) in
-    let k = subst (λ q. Chosen (branch (c .in-Join .v) (c .in-Join .w)) z (Some q) y) one (c .in-Some-choose .ensures tt) in
-    record {
-      same = (refl, refl, λ m h. h);
-      left = two-put sh w wide gs fs n f u fit more S S z y (c .pre .some) (whole tree node) b is (c .in-Join .l) (c .in-Join .r) (not b) b (c .push-in-Some-choose .last .goals) (c .push-in-Some-choose-2 .last .goals) (c .push-in-Some-choose .last .d) (c .push-in-Some-choose-2 .last .d) (ok .1) (ok .2) (omega arith) (omega arith) (c .push-in-Some-choose .ensures .goals) (c .push-in-Some-choose .ensures .depth) (c .push-in-Some-choose-2 .ensures .goals) (c .push-in-Some-choose-2 .ensures .depth) (right-led rules e b below u S C x w z (c .in-Join .word) (c .in-Join .v) (c .in-Join .w) (tree (c .in-Join .l)) (tree (c .in-Join .r)) h y k)
-    }
-
 pub pass-requires : need.pass-requires
 pass-requires g c κs =
     let st = g .S·Store in
@@ -674,41 +433,6 @@ returns-in-None-pass g c =
       left = subst (λ q. Halt z (Solving rules q u S) y) (sym is) (call-halt rules e b below S C x w z (c .in-Call .rule) (terms (c .in-Call .ts) (c .in-Call .n)) u (c .in-Call .n) P y (c .in-None-pass .ensures tt .left))
     }
 
-pub returns-then-d-eq0 : need.returns-then-d-eq0
-returns-then-d-eq0 g c =
-    let st = g .S·Store in
-    let waits = g .R·Source .waiting in
-    let guide = c .args .guide in
-    let s = c .args .store .now in
-    let w = st .width s in
-    let S = st .current s in
-    let z = way guide (c .args .picks .now) (c .args .widths .now) (c .args .at .now) (waits (c .args .source .now)) in
-    let sh = c .args .sheet .now in
-    let wide = c .pre .fields in
-    let gs = c .args .goals .now in
-    let fs = c .args .frames .now in
-    let n = c .args .d .now .goals in
-    let f = c .args .d .now .frames in
-    let u = c .args .d .now .fuel in
-    let rules = rules-of (tree-of sh) in
-    let tree = formula-at (sh .nodes) in
-    let C = counted w S (st .sound .left s) in
-    let x = some-alive w S (c .pre .some) in
-    let fit = c .pre .fit in
-    let more = c .pre .more in
-    let b = top sh w wide gs fs n f u fit more .target in
-    let e = above sh w wide gs fs n f u fit more in
-    let below = rest sh w wide gs fs n f u fit more in
-    let node = Call (c .in-Call .rule) (c .in-Call .n) (c .in-Call .ts) in
-    let is = opened sh w wide gs fs n f u fit more node (c .in-Call .is) in
-    let ok = node-okay sh w wide gs fs n f u fit more node (c .in-Call .is) in
-    let P = st .current (c .pass .last .store) in
-    let y = way guide (c .pass .last .picks) (c .pass .last .widths) (c .pass .last .at) (waits (c .pass .last .source)) in
-    record {
-      same = c .pass .ensures .same;
-      left = subst (λ q. Took z (λ v. Solves rules q (live u S) v spent) y) (sym is) (call-spent rules e b below S C x w z (c .in-Call .rule) (terms (c .in-Call .ts) (c .in-Call .n)) u (c .in-Call .n) P y (c .in-Some-pass .f) (c .if-d-eq0 .taken) (c .in-Some-pass .ensures tt .left))
-    }
-
 pub index-sheet-rule : need.index-sheet-rule
 index-sheet-rule g c =
     let st = g .S·Store in
@@ -739,8 +463,212 @@ index-sheet-rule g c =
     let ok = node-okay sh w wide gs fs n f u fit more node (c .in-Call .is) in
     omega (arith, sh .long, sh .«few_rules», ok .0)
 
-pub returns-else-d-eq0 : need.returns-else-d-eq0
-returns-else-d-eq0 g c =
+pub ask-requires : need.ask-requires
+ask-requires g c κs =
+    let st = g .S·Store in
+    let waits = g .R·Source .waiting in
+    let guide = c .args .guide in
+    let s = c .args .store .now in
+    let w = st .width s in
+    let S = st .current s in
+    let z = way guide (c .args .picks .now) (c .args .widths .now) (c .args .at .now) (waits (c .args .source .now)) in
+    let sh = c .args .sheet .now in
+    let wide = c .pre .fields in
+    let gs = c .args .goals .now in
+    let fs = c .args .frames .now in
+    let n = c .args .d .now .goals in
+    let f = c .args .d .now .frames in
+    let u = c .args .d .now .fuel in
+    let rules = rules-of (tree-of sh) in
+    let tree = formula-at (sh .nodes) in
+    let C = counted w S (st .sound .left s) in
+    let x = some-alive w S (c .pre .some) in
+    let fit = c .pre .fit in
+    let more = c .pre .more in
+    let b = top sh w wide gs fs n f u fit more .target in
+    let e = above sh w wide gs fs n f u fit more in
+    let below = rest sh w wide gs fs n f u fit more in
+    let node = Join (c .in-Join .word) (c .in-Join .v) (c .in-Join .w) (c .in-Join .l) (c .in-Join .r) in
+    let is = opened sh w wide gs fs n f u fit more node (c .in-Join .is) in
+    let ok = node-okay sh w wide gs fs n f u fit more node (c .in-Join .is) in
+    record {
+      usable = omega (arith, ok .0);
+      room = λ h. join-fits rules e b below u S C x w z (c .in-Join .word) (c .in-Join .v) (c .in-Join .w) (tree (c .in-Join .l)) (tree (c .in-Join .r)) h (subst (λ q. Fits z (Solving rules q u S)) is (c .pre .room))
+    }
+
+pub returns-in-rest : need.returns-in-rest
+returns-in-rest g c =
+    let st = g .S·Store in
+    let waits = g .R·Source .waiting in
+    let guide = c .args .guide in
+    let s = c .args .store .now in
+    let w = st .width s in
+    let S = st .current s in
+    let z = way guide (c .args .picks .now) (c .args .widths .now) (c .args .at .now) (waits (c .args .source .now)) in
+    let sh = c .args .sheet .now in
+    let wide = c .pre .fields in
+    let gs = c .args .goals .now in
+    let fs = c .args .frames .now in
+    let n = c .args .d .now .goals in
+    let f = c .args .d .now .frames in
+    let u = c .args .d .now .fuel in
+    let rules = rules-of (tree-of sh) in
+    let tree = formula-at (sh .nodes) in
+    let C = counted w S (st .sound .left s) in
+    let x = some-alive w S (c .pre .some) in
+    let fit = c .pre .fit in
+    let more = c .pre .more in
+    let b = top sh w wide gs fs n f u fit more .target in
+    let e = above sh w wide gs fs n f u fit more in
+    let below = rest sh w wide gs fs n f u fit more in
+    let node = Join (c .in-Join .word) (c .in-Join .v) (c .in-Join .w) (c .in-Join .l) (c .in-Join .r) in
+    let is = opened sh w wide gs fs n f u fit more node (c .in-Join .is) in
+    let ok = node-okay sh w wide gs fs n f u fit more node (c .in-Join .is) in
+    let y = way guide (c .ask .last .picks) (c .ask .last .widths) (c .ask .last .at) (waits (c .ask .last .source)) in
+    let h = c .in-rest .ensures tt in
+    record {
+      same = (refl, refl, λ m h. h);
+      left = subst (λ q. Halt z (Solving rules q u S) y) (sym is) (join-halt rules e b below u S C x w z (c .in-Join .word) (c .in-Join .v) (c .in-Join .w) (tree (c .in-Join .l)) (tree (c .in-Join .r)) (h .0) y (h .1))
+    }
+
+pub returns-in-Left : need.returns-in-Left
+returns-in-Left g c =
+    let st = g .S·Store in
+    let waits = g .R·Source .waiting in
+    let guide = c .args .guide in
+    let s = c .args .store .now in
+    let w = st .width s in
+    let S = st .current s in
+    let z = way guide (c .args .picks .now) (c .args .widths .now) (c .args .at .now) (waits (c .args .source .now)) in
+    let sh = c .args .sheet .now in
+    let wide = c .pre .fields in
+    let gs = c .args .goals .now in
+    let fs = c .args .frames .now in
+    let n = c .args .d .now .goals in
+    let f = c .args .d .now .frames in
+    let u = c .args .d .now .fuel in
+    let rules = rules-of (tree-of sh) in
+    let tree = formula-at (sh .nodes) in
+    let C = counted w S (st .sound .left s) in
+    let x = some-alive w S (c .pre .some) in
+    let fit = c .pre .fit in
+    let more = c .pre .more in
+    let b = top sh w wide gs fs n f u fit more .target in
+    let e = above sh w wide gs fs n f u fit more in
+    let below = rest sh w wide gs fs n f u fit more in
+    let node = Join (c .in-Join .word) (c .in-Join .v) (c .in-Join .w) (c .in-Join .l) (c .in-Join .r) in
+    let is = opened sh w wide gs fs n f u fit more node (c .in-Join .is) in
+    let ok = node-okay sh w wide gs fs n f u fit more node (c .in-Join .is) in
+    let y = way guide (c .ask .last .picks) (c .ask .last .widths) (c .ask .last .at) (waits (c .ask .last .source)) in
+    let h = subst (λ q. Sided (c .in-Join .word) (c .in-Join .v) (c .in-Join .w) b z (Some q) y) (c .in-Left .is) (c .in-Some-ask .ensures tt) in
+    record {
+      same = (refl, refl, λ m h. h);
+      left = one-put sh w wide gs fs n f u fit more S S z y (c .pre .some) (whole tree node) b is (c .in-Join .l) b (c .push-in-Left .last .goals) (c .push-in-Left .last .d) (ok .1) (omega arith) (omega arith) (c .push-in-Left .ensures .goals) (c .push-in-Left .ensures .depth) (left-led rules e b below u S C x w z (c .in-Join .word) (c .in-Join .v) (c .in-Join .w) (tree (c .in-Join .l)) (tree (c .in-Join .r)) (h .0) y (h .1))
+    }
+
+pub push-requires-in-Both-2 : need.push-requires-in-Both-2
+push-requires-in-Both-2 g c κs =
+    let st = g .S·Store in
+    let waits = g .R·Source .waiting in
+    let guide = c .args .guide in
+    let s = c .args .store .now in
+    let w = st .width s in
+    let S = st .current s in
+    let z = way guide (c .args .picks .now) (c .args .widths .now) (c .args .at .now) (waits (c .args .source .now)) in
+    let sh = c .args .sheet .now in
+    let wide = c .pre .fields in
+    let gs = c .args .goals .now in
+    let fs = c .args .frames .now in
+    let n = c .args .d .now .goals in
+    let f = c .args .d .now .frames in
+    let u = c .args .d .now .fuel in
+    let rules = rules-of (tree-of sh) in
+    let tree = formula-at (sh .nodes) in
+    let C = counted w S (st .sound .left s) in
+    let x = some-alive w S (c .pre .some) in
+    let fit = c .pre .fit in
+    let more = c .pre .more in
+    let b = top sh w wide gs fs n f u fit more .target in
+    let e = above sh w wide gs fs n f u fit more in
+    let below = rest sh w wide gs fs n f u fit more in
+    let node = Join (c .in-Join .word) (c .in-Join .v) (c .in-Join .w) (c .in-Join .l) (c .in-Join .r) in
+    let is = opened sh w wide gs fs n f u fit more node (c .in-Join .is) in
+    let ok = node-okay sh w wide gs fs n f u fit more node (c .in-Join .is) in
+    let room = two-room sh w wide gs fs n f u fit more S S z z (c .pre .some) (whole tree node) b is (omega arith) in
+    let eg = ap length (c .push-in-Both .ensures .goals) ∙ length-set gs (n - 1) _ in
+    let ed = ap (λ q. q .goals) (c .push-in-Both .ensures .depth) in
+    omega arith
+
+pub returns-in-Both : need.returns-in-Both
+returns-in-Both g c =
+    let st = g .S·Store in
+    let waits = g .R·Source .waiting in
+    let guide = c .args .guide in
+    let s = c .args .store .now in
+    let w = st .width s in
+    let S = st .current s in
+    let z = way guide (c .args .picks .now) (c .args .widths .now) (c .args .at .now) (waits (c .args .source .now)) in
+    let sh = c .args .sheet .now in
+    let wide = c .pre .fields in
+    let gs = c .args .goals .now in
+    let fs = c .args .frames .now in
+    let n = c .args .d .now .goals in
+    let f = c .args .d .now .frames in
+    let u = c .args .d .now .fuel in
+    let rules = rules-of (tree-of sh) in
+    let tree = formula-at (sh .nodes) in
+    let C = counted w S (st .sound .left s) in
+    let x = some-alive w S (c .pre .some) in
+    let fit = c .pre .fit in
+    let more = c .pre .more in
+    let b = top sh w wide gs fs n f u fit more .target in
+    let e = above sh w wide gs fs n f u fit more in
+    let below = rest sh w wide gs fs n f u fit more in
+    let node = Join (c .in-Join .word) (c .in-Join .v) (c .in-Join .w) (c .in-Join .l) (c .in-Join .r) in
+    let is = opened sh w wide gs fs n f u fit more node (c .in-Join .is) in
+    let ok = node-okay sh w wide gs fs n f u fit more node (c .in-Join .is) in
+    let y = way guide (c .ask .last .picks) (c .ask .last .widths) (c .ask .last .at) (waits (c .ask .last .source)) in
+    let t = c .in-Both .target in
+    let h = subst (λ q. Sided (c .in-Join .word) (c .in-Join .v) (c .in-Join .w) b z (Some q) y) (c .in-Both .is) (c .in-Some-ask .ensures tt) in
+    record {
+      same = (refl, refl, λ m h. h);
+      left = two-put sh w wide gs fs n f u fit more S S z y (c .pre .some) (whole tree node) b is (c .in-Join .l) (c .in-Join .r) t b (c .push-in-Both .last .goals) (c .push-in-Both-2 .last .goals) (c .push-in-Both .last .d) (c .push-in-Both-2 .last .d) (ok .1) (ok .2) (omega arith) (omega arith) (c .push-in-Both .ensures .goals) (c .push-in-Both .ensures .depth) (c .push-in-Both-2 .ensures .goals) (c .push-in-Both-2 .ensures .depth) (sides-led rules e b below u S C x w z (c .in-Join .word) (c .in-Join .v) (c .in-Join .w) (tree (c .in-Join .l)) (tree (c .in-Join .r)) t y h)
+    }
+
+pub enter-requires : need.enter-requires
+enter-requires g c κs =
+    let st = g .S·Store in
+    let waits = g .R·Source .waiting in
+    let guide = c .args .guide in
+    let s = c .args .store .now in
+    let w = st .width s in
+    let S = st .current s in
+    let z = way guide (c .args .picks .now) (c .args .widths .now) (c .args .at .now) (waits (c .args .source .now)) in
+    let sh = c .args .sheet .now in
+    let wide = c .pre .fields in
+    let gs = c .args .goals .now in
+    let fs = c .args .frames .now in
+    let n = c .args .d .now .goals in
+    let f = c .args .d .now .frames in
+    let u = c .args .d .now .fuel in
+    let rules = rules-of (tree-of sh) in
+    let tree = formula-at (sh .nodes) in
+    let C = counted w S (st .sound .left s) in
+    let x = some-alive w S (c .pre .some) in
+    let fit = c .pre .fit in
+    let more = c .pre .more in
+    let b = top sh w wide gs fs n f u fit more .target in
+    let e = above sh w wide gs fs n f u fit more in
+    let below = rest sh w wide gs fs n f u fit more in
+    let node = Call (c .in-Call .rule) (c .in-Call .n) (c .in-Call .ts) in
+    let is = opened sh w wide gs fs n f u fit more node (c .in-Call .is) in
+    let ok = node-okay sh w wide gs fs n f u fit more node (c .in-Call .is) in
+    let P = st .current (c .pass .last .store) in
+    let y = way guide (c .pass .last .picks) (c .pass .last .widths) (c .pass .last .at) (waits (c .pass .last .source)) in
+    record { goals = omega (arith, fit .0 .hold, more); frames = fit .0 .frames-hold; few = fit .0 .few }
+
+pub returns-in-Some-pass : need.returns-in-Some-pass
+returns-in-Some-pass g c =
     let st = g .S·Store in
     let waits = g .R·Source .waiting in
     let guide = c .args .guide in
@@ -770,10 +698,15 @@ returns-else-d-eq0 g c =
     let P = st .current (c .pass .last .store) in
     let y = way guide (c .pass .last .picks) (c .pass .last .widths) (c .pass .last .at) (waits (c .pass .last .source)) in
     let k = c .in-Some-pass .ensures tt .left in
-    let fueled : 0 < u = omega (arith, c .if-d-eq0 .left) in
     let r = c .in-Call .rule in
-    let d = c .push-in-Some-pass .ensures .depth in
+    let a = c .in-Some-pass .f in
+    let F = tree (line-at (sh .lines) r .body) in
+    let q = spot (c .enter .last .goals) (c .enter .last .frames) (c .enter .last .d) in
+    let moved : Entered a (line-at (sh .lines) r .body) b (spot gs fs (depth (n - 1) f u)) Moved q → Turned sh (pending sh gs fs n) u S z Moved q P y =
+      λ m. call-put sh w wide gs fs n f u fit more S P z y (k .alive) (whole tree node) b is r b a (q .goals) (q .frames) (q .depth) (m .0) (ok .0) refl refl (k .okay) (k .count ∙ ok .1) (m .1) (m .2) (m .3) (call-led rules e b below S C x w z (c .in-Call .rule) (terms (c .in-Call .ts) (c .in-Call .n)) u (c .in-Call .n) P y a F (m .0) (body-is sh r (ok .0)) k) in
+    let out : Entered a (line-at (sh .lines) r .body) b (spot gs fs (depth (n - 1) f u)) Spent q → Turned sh (pending sh gs fs n) u S z Spent q P y =
+      λ m. subst (λ q. Took z (λ v. Solves rules q (live u S) v spent) y) (sym is) (call-spent rules e b below S C x w z (c .in-Call .rule) (terms (c .in-Call .ts) (c .in-Call .n)) u (c .in-Call .n) P y a m k) in
     record {
       same = c .pass .ensures .same;
-      left = call-put sh w wide gs fs n f u fit more S P z y (k .alive) (whole tree node) b is r b (c .in-Some-pass .f) (c .push-in-Some-pass .last .goals) (set fs f (c .in-Some-pass .f)) (depth (c .push-in-Some-pass .last .d .goals) (f + 1) (c .push-in-Some-pass .last .d .fuel - 1)) fueled (ok .0) refl refl (k .okay) (k .count ∙ ok .1) (c .push-in-Some-pass .ensures .goals) refl (λ j. depth (d j .goals) (f + 1) (d j .fuel - 1)) (call-led rules e b below S C x w z (c .in-Call .rule) (terms (c .in-Call .ts) (c .in-Call .n)) u (c .in-Call .n) P y (c .in-Some-pass .f) (tree (line-at (sh .lines) r .body)) fueled (body-is sh r (ok .0)) k)
+      left = entered sh gs fs n u S P z y q a (line-at (sh .lines) r .body) b (spot gs fs (depth (n - 1) f u)) moved out (c .enter .result) (c .enter .ensures)
     }
