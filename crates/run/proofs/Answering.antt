@@ -79,7 +79,7 @@ same-lists ps ws k (suc n) (took p c ∷ t) e es g =
     let sp : set ps k p ≡ ps = ap (set ps k) (q .0) ∙ set-getD ps k 0 in
     let sw : set ws k (width c) ≡ ws = ap (set ws k) (sym (q .1)) ∙ set-getD ws k 0 in
     let same : written (trail (set ps k p) (set ws k (width c)) (suc k)) t ≡ written (trail ps ws (suc k)) t =
-      (λ j. written (trail (sp j) (sw j) (suc k)) t) in
+    (λ j. written (trail (sp j) (sw j) (suc k)) t) in
     let r = same-lists ps ws (suc k) n t e es (subst (λ x. Guided x t (recorded (e ∷ es))) (q .3) (g .2)) in
     (ap (λ x. x .picks) same ∙ r .0, ap (λ x. x .widths) same ∙ r .1)
 
@@ -109,8 +109,9 @@ module _ (s : Sheet) (fuel : ℕ) (S : Marks) (B : MarksOf (fields-of s) S) wher
       → (t : Trace) (o : Outcome) (i : Guide) → Run s fuel S t o → Guided (z .guide) t i → ⊥
   halted-none z y h t o i r g =
       elim (run-part s fuel S B t (h .before ++ took 0 (h .choice) ∷ h .after) o (h .does .0) r (h .does .1)) [
-        inl e ↦ halted-one (z .guide) (y .guide) i (h .before) (h .after) (h .choice) (h .guided) (h .stuck) (subst (λ u. Guided (z .guide) u i) (e .0) g)
-      | inr d ↦ halted-apart (z .guide) (y .guide) i (h .before) (h .after) t (h .choice) (h .guided) (h .stuck) g d ]
+        | inl e ↦ halted-one (z .guide) (y .guide) i (h .before) (h .after) (h .choice) (h .guided) (h .stuck) (subst (λ u. Guided (z .guide) u i) (e .0) g)
+        | inr d ↦ halted-apart (z .guide) (y .guide) i (h .before) (h .after) t (h .choice) (h .guided) (h .stuck) g d
+      ]
 
   -- nor does one follow all entries where another run leaves some
   early-none :
@@ -121,8 +122,9 @@ module _ (s : Sheet) (fuel : ℕ) (S : Marks) (B : MarksOf (fields-of s) S) wher
   early-none z y a e es k is t o r g =
       let g′ = subst (Guided (z .guide) (k .trace)) is (k .guided) in
       elim (run-part s fuel S B t (k .trace) o a r (k .does)) [
-        inl q ↦ differ (guided-one (z .guide) (recorded []) (recorded (e ∷ es)) (k .trace) (subst (λ u. Guided (z .guide) u (recorded [])) (q .0) g) g′)
-      | inr d ↦ guided-apart (z .guide) (recorded []) (recorded (e ∷ es)) t (k .trace) g g′ d ]
+        | inl q ↦ differ (guided-one (z .guide) (recorded []) (recorded (e ∷ es)) (k .trace) (subst (λ u. Guided (z .guide) u (recorded [])) (q .0) g) g′)
+        | inr d ↦ guided-apart (z .guide) (recorded []) (recorded (e ∷ es)) t (k .trace) g g′ d
+      ]
     where
       differ : recorded [] ≡ recorded (e ∷ es) → ⊥
       differ q = let z = ap count q in omega arith

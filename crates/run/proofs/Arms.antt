@@ -102,7 +102,7 @@ module _ (rules : List Rule) (e : List Argument) (b : Bool) (rest : List Waiting
           trace = took 1 (branch p q) ∷ [];
           does = λ v o s. step-right rules (h .0) s;
           guided = (y .guide, h .2 .1, refl);
-          end = h .2 .2
+          end = h .2 .2;
         })
 
     module _ (h : b ≢ wants j) (y : Way) where

@@ -95,7 +95,7 @@ module _ (e : List Argument) (l : Term) (s : Comparison) (r : Term) (b : Bool) (
             let lives : (n : ℕ) → Lives n (passing S₃ (aimed b s) (argument-of a) (argument-of c)) (live n P) = λ n. subst (λ Q. Lives n Q (live n P)) (h .0) (some-left (some-alive w P (h .1))) in
             record {
               took = took-join {N = λ v. (t : Trace) → Resolves e S l t S₁ (argument-of a) → (rules : List Rule) (n : ℕ) → Matches rules e (compare l s r) b (live n S) (t ++ v) (live n P)} (λ t u m n. n t m) (p .took)
-                (took-join (λ u v m n t k rules i. compares k m n (lives i)) (q .took) (o .took));
+                  (took-join (λ u v m n t k rules i. compares k m n (lives i)) (q .took) (o .took));
               alive = h .1;
             }
         compared S₃ P y₃ false o h =

@@ -46,9 +46,9 @@ module _ (w : ℕ) (z : Way) (S₀ : Marks) where
     pub end-more : (v : ℕ) (P : Marks) (y′ : Way) (vs′ : List ℕ) → Took y (λ t. Settles S (the-field i) t P v) y′ → vs′ ≡ vs ++ v ∷ [] → Took z (EndLeads w S₀ (suc i) c P vs′) y′
     end-more v P y′ vs′ k is =
         took-join (λ t u m s a Q d p.
-          subst (λ q. Ends 0 w S₀ ((t ++ u) ++ a) Q (q ++ d)) (sym is)
-          (subst (λ q. Ends 0 w S₀ ((t ++ u) ++ a) Q q) (sym (append-assoc vs (v ∷ []) d))
-          (subst (λ q. Ends 0 w S₀ q Q (vs ++ v ∷ d)) (sym (append-assoc t u a)) (m (u ++ a) Q (v ∷ d) (ends s p))))) led k
+        subst (λ q. Ends 0 w S₀ ((t ++ u) ++ a) Q (q ++ d)) (sym is)
+        (subst (λ q. Ends 0 w S₀ ((t ++ u) ++ a) Q q) (sym (append-assoc vs (v ∷ []) d))
+        (subst (λ q. Ends 0 w S₀ q Q (vs ++ v ∷ d)) (sym (append-assoc t u a)) (m (u ++ a) Q (v ∷ d) (ends s p))))) led k
 
     module _ (C : Counted S) (alive : Empty S → ⊥) where
       on : (v : Trace) → Settling S (the-field i) v → (u : Trace) × Ending i (suc c) S (v ++ u)
@@ -112,10 +112,10 @@ begin-more B S rs i h e =
     let long : 0 + length firsts ≡ i = omega (arith, count) in
     ap (λ Q. kept (kept Q i AtLeast low) i AtMost high) e
     ∙ fun-ext (λ m.
-        four (B m) (ranged firsts 0 m) (holds AtLeast (getD m i 0) low) (holds AtMost (getD m i 0) high)
-        ∙ ap (λ q. B m && (ranged firsts 0 m && (holds AtLeast (getD m q 0) low && holds AtMost (getD m q 0) high))) (sym long)
-        ∙ ap (λ q. B m && q) (sym (ranged-more firsts low high 0 m))
-        ∙ ap (λ q. B m && ranged q 0 m) (sym (take-ranges rs i h)))
+    four (B m) (ranged firsts 0 m) (holds AtLeast (getD m i 0) low) (holds AtMost (getD m i 0) high)
+    ∙ ap (λ q. B m && (ranged firsts 0 m && (holds AtLeast (getD m q 0) low && holds AtMost (getD m q 0) high))) (sym long)
+    ∙ ap (λ q. B m && q) (sym (ranged-more firsts low high 0 m))
+    ∙ ap (λ q. B m && ranged q 0 m) (sym (take-ranges rs i h)))
 
 pub begin-none : (B : Marks) (rs : List Range) → B ≡ inside B (map range-of (take 0 rs))
 begin-none B rs = fun-ext (λ m. sym (and-true (B m)))

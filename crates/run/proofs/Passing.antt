@@ -54,9 +54,9 @@ module _ (e : List Argument) (w : ℕ) (z : Way) (S₀ : Marks) (ts₀ : List Te
     pub pass-more : (a : Held) (P : Marks) (y′ : Way) (f′ : Frame) → Took y (λ t. Resolves e S x t P (argument-of a)) y′ → arguments-of f′ ≡ arguments-of f ++ argument-of a ∷ [] → Took z (PassLeads e S₀ ts₀ P us f′) y′
     pass-more a P y′ f′ k is =
         took-join (λ t u m s v Q d p.
-          subst (λ q. Passes e S₀ ts₀ ((t ++ u) ++ v) Q (q ++ d)) (sym is)
-          (subst (λ q. Passes e S₀ ts₀ ((t ++ u) ++ v) Q q) (sym (append-assoc (arguments-of f) (argument-of a ∷ []) d))
-          (subst (λ q. Passes e S₀ ts₀ q Q (arguments-of f ++ argument-of a ∷ d)) (sym (append-assoc t u v)) (m (u ++ v) Q (argument-of a ∷ d) (passes s p))))) led k
+        subst (λ q. Passes e S₀ ts₀ ((t ++ u) ++ v) Q (q ++ d)) (sym is)
+        (subst (λ q. Passes e S₀ ts₀ ((t ++ u) ++ v) Q q) (sym (append-assoc (arguments-of f) (argument-of a ∷ []) d))
+        (subst (λ q. Passes e S₀ ts₀ q Q (arguments-of f ++ argument-of a ∷ d)) (sym (append-assoc t u v)) (m (u ++ v) Q (argument-of a ∷ d) (passes s p))))) led k
 
     module _ (C : Counted S) (alive : Empty S → ⊥) where
       on : (v : Trace) → Resolving e S x v → (u : Trace) × Passing e S (x ∷ us) (v ++ u)
@@ -92,8 +92,9 @@ blank-okay w (suc (suc (suc (suc i)))) h = absurd (let z : ⊥ = omega arith in 
 pub args-okay : (w : ℕ) (xs : List Held) (i : ℕ) (a : Held) → i < length xs → Okay w a → ((j : ℕ) → j < 4 → Okay w (getD xs j (Field 0))) → (j : ℕ) → j < 4 → Okay w (getD (set xs i a) j (Field 0))
 args-okay w xs i a l ok h j b =
     elim (ℕ-discrete j i) [
-      yes e ↦ subst (λ q. Okay w (getD (set xs i a) q (Field 0))) (sym e) (subst (Okay w) (sym (getD-set-same xs i a (Field 0) l)) ok)
-    | no ne ↦ subst (Okay w) (sym (getD-set-other xs i j a (Field 0) ne)) (h j b) ]
+      | yes e ↦ subst (λ q. Okay w (getD (set xs i a) q (Field 0))) (sym e) (subst (Okay w) (sym (getD-set-same xs i a (Field 0) l)) ok)
+      | no ne ↦ subst (Okay w) (sym (getD-set-other xs i j a (Field 0) ne)) (h j b)
+    ]
 
 abbrev pub blank : Frame
 blank = record { arguments = ANumber 0 ∷ ANumber 0 ∷ ANumber 0 ∷ ANumber 0 ∷ []; count = 0 }

@@ -38,8 +38,8 @@ module _ (s : Sheet) (fuel : ℕ) (S : Marks) (B : MarksOf (fields-of s) S) wher
   run-fits z e few hp hw =
       record {
         room = λ t r.
-          let l = lengths s fuel S B 16 few t (r .0) (r .1) in
-          record { picks-hold = omega arith; widths-hold = omega arith }
+            let l = lengths s fuel S B 16 few t (r .0) (r .1) in
+            record { picks-hold = omega arith; widths-hold = omega arith };
       }
 
   pub dead-at-once : (z : Way) → Empty (inside S (ranges-of s)) → Took z (λ v. Run s fuel S v dead-end) z

@@ -79,7 +79,7 @@ module _ (w : ℕ) (S : Marks) (f : ℕ) (sh : MarksOf w S) (inside : f < w) whe
         (record {
           took = took-none (known (subst (Values S f) (one-of xs one) values-hold));
           small = value-small w S f 0 (p .0);
-          alive = x
+          alive = x;
         })
 
     -- a number of the field is kept, and marks are left
@@ -102,12 +102,12 @@ module _ (w : ℕ) (S : Marks) (f : ℕ) (sh : MarksOf w S) (inside : f < w) whe
           (subst (λ Q. Settled w S (Field f) z (Some (getD xs k 0)) Q y) (sym (p .1 ∙ ap (kept S f Equal) (p .0)))
           (record {
             took =
-              record {
-                trace = took k (among (length xs)) ∷ [];
-                does = chosen k values-hold wide (c .0);
-                guided = (y .guide, c .1, refl);
-                end = c .2
-              };
+                record {
+                  trace = took k (among (length xs)) ∷ [];
+                  does = chosen k values-hold wide (c .0);
+                  guided = (y .guide, c .1, refl);
+                  end = c .2;
+                };
             small = value-small w S f k (c .0);
             alive = keeps-some k (c .0);
           }))
@@ -121,7 +121,7 @@ module _ (w : ℕ) (S : Marks) (f : ℕ) (sh : MarksOf w S) (inside : f < w) whe
             does = (_, _, chosen 0 values-hold wide (some-values x));
             guided = ap (λ q. q .guide) (c .1);
             stuck = c .0;
-            end = ap (λ q. q .trail) (c .1)
+            end = ap (λ q. q .trail) (c .1);
           }
 
     pub one-fits : length (values w S f) ≢ 1 → Fits z (Settling S (the-field f)) → Room 1 (z .trail)

@@ -125,9 +125,9 @@ body-is s r h =
     let none : Rule = rule 0 (compare (num 0) Equal (num 1)) in
     ap (λ q. body q r) (rules-are s)
     ∙ ap formula-of
-      (getD-map (rule-of (s .nodes)) (take (s .«rule_count») (s .lines)) r no-line none
-       (subst (λ k. r < k) (sym (length-take-le (s .«rule_count») (s .lines) long)) h)
-       ∙ ap (rule-of (s .nodes)) (getD-take (s .«rule_count») (s .lines) r no-line h))
+    (getD-map (rule-of (s .nodes)) (take (s .«rule_count») (s .lines)) r no-line none
+    (subst (λ k. r < k) (sym (length-take-le (s .«rule_count») (s .lines) long)) h)
+    ∙ ap (rule-of (s .nodes)) (getD-take (s .«rule_count») (s .lines) r no-line h))
 
 -- the two counts of joins agree
 pub joins-same : (F : Formula) → joins F ≡ joins-kept F
@@ -149,10 +149,10 @@ pub body-joins : (s : Sheet) (r : ℕ) → joins (body (rules-of (tree-of s)) r)
 body-joins s r =
     let long : s .«rule_count» ≤ length (s .lines) = omega (arith, s .long, s .«few_rules») in
     let many : length (rules-of (tree-of s)) ≡ s .«rule_count» =
-      ap length (rules-are s) ∙ length-map (take (s .«rule_count») (s .lines)) (rule-of (s .nodes)) ∙ length-take-le (s .«rule_count») (s .lines) long in
+    ap length (rules-are s) ∙ length-map (take (s .«rule_count») (s .lines)) (rule-of (s .nodes)) ∙ length-take-le (s .«rule_count») (s .lines) long in
     joins-in (rules-of (tree-of s)) r (λ i l.
-      let less : i < s .«rule_count» = omega (arith, many) in
-      subst (λ F. joins F ≤ 16) (sym (body-is s i less)) (line-joins s i (omega (arith, less))))
+    let less : i < s .«rule_count» = omega (arith, many) in
+    subst (λ F. joins F ≤ 16) (sym (body-is s i less)) (line-joins s i (omega (arith, less))))
 
 size-in : (rules : List Rule) (r : ℕ) → r < length rules → size (body rules r) ≤ sizes-of rules
 size-in [] r h = absurd (omega arith)
@@ -163,7 +163,7 @@ pub body-size : (s : Sheet) (r : ℕ) → r < s .«rule_count» → size (formul
 body-size s r h =
     let long : s .«rule_count» ≤ length (s .lines) = omega (arith, s .long, s .«few_rules») in
     let many : length (rules-of (tree-of s)) ≡ s .«rule_count» =
-      ap length (rules-are s) ∙ length-map (take (s .«rule_count») (s .lines)) (rule-of (s .nodes)) ∙ length-take-le (s .«rule_count») (s .lines) long in
+    ap length (rules-are s) ∙ length-map (take (s .«rule_count») (s .lines)) (rule-of (s .nodes)) ∙ length-take-le (s .«rule_count») (s .lines) long in
     subst (λ F. size F ≤ sizes-of (rules-of (tree-of s))) (body-is s r h) (size-in (rules-of (tree-of s)) r (omega (arith, many)))
 
 -- the mark line and the rules have few joins
@@ -171,5 +171,5 @@ pub few-joins : (s : Sheet) → FewJoins (tree-of s) 16
 few-joins s =
     record {
       marked = subst (λ G. joins G ≤ 16) (sym (mark-is s)) (line-joins s (s .«rule_count») (omega arith));
-      ruled = body-joins s
+      ruled = body-joins s;
     }

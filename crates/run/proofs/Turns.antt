@@ -75,8 +75,8 @@ module _ (s : Sheet) where
       let g = getD gs n no-goal in
       let ne : g .frame ≢ f = omega (arith, h n (omega arith)) in
       (λ j.
-        goal (arguments-of (getD-set-other fs f (g .frame) x no-frame ne j)) (formula-at (s .nodes) (g .formula)) (g .target)
-        ∷ pending-frame gs fs f x n (λ i l. h i (omega arith)) j)
+      goal (arguments-of (getD-set-other fs f (g .frame) x no-frame ne j)) (formula-at (s .nodes) (g .formula)) (g .target)
+      ∷ pending-frame gs fs f x n (λ i l. h i (omega arith)) j)
 
   pub pending-length : (gs : List Goal) (fs : List Frame) (n : ℕ) → length (pending s gs fs n) ≡ n
   pending-length gs fs zero = refl
@@ -109,7 +109,7 @@ stood-more s fs f x g h =
       line = h .line;
       within = h .within;
       frame = omega (arith, h .frame);
-      count = ap (λ q. q .count) (getD-set-other fs f (g .frame) x no-frame ne) ∙ h .count
+      count = ap (λ q. q .count) (getD-set-other fs f (g .frame) x no-frame ne) ∙ h .count;
     }
 
 module _ {s : Sheet} {gs : List Goal} {fs : List Frame} {n f u : ℕ} (h : Good s (spot gs fs (depth n f u))) where
@@ -120,7 +120,7 @@ module _ {s : Sheet} {gs : List Goal} {fs : List Frame} {n f u : ℕ} (h : Good 
         frames-hold = h .frames-hold;
         few = h .few;
         stood = λ i b. h .stood i (omega arith);
-        okay = h .okay
+        okay = h .okay;
       }
 
   pub good-push : (g : Goal) → n < length gs → Stood s fs f g → Good s (spot (set gs n g) fs (depth (n + 1) f u))
@@ -177,7 +177,7 @@ module _ (s : Sheet) (w : ℕ) (wide : w ≡ s .«field_count») (gs : List Goal
   opened x e =
       pop s gs fs n more
       ∙ ap (λ F. goal above F (top .target) ∷ rest)
-        (formula-step s (stands .line) (top .formula) (stands .within) ∙ ap (whole (formula-at (s .nodes))) e)
+      (formula-step s (stands .line) (top .formula) (stands .within) ∙ ap (whole (formula-at (s .nodes))) e)
 
   pub node-okay : (x : Node) → node-at (s .nodes) (top .formula) ≡ x → NodeOkay s w (framed .count) (stands .line) (top .formula) x
   node-okay x e =
@@ -205,7 +205,7 @@ module _ (s : Sheet) (w : ℕ) (wide : w ≡ s .«field_count») (gs : List Goal
           took = subst (λ q. Took z (Leads (rules-of (tree-of s)) q u S rest u P) y) (sym is) k;
           fit = (good-pop (fit .0), omega (arith, fit .1));
           less = omega arith;
-          alive = alive-in
+          alive = alive-in;
         }
 
     -- another stands in its place
@@ -231,8 +231,8 @@ module _ (s : Sheet) (w : ℕ) (wide : w ≡ s .«field_count») (gs : List Goal
         (subst (λ q. Moves s (pending s gs fs n) u S z (spot (set gs (n - 1) x) fs q) P y) (sym ed)
         (record {
           took =
-            subst (λ q. Took z (Leads (rules-of (tree-of s)) (pending s gs fs n) u S q u P) y) (sym put)
-            (subst (λ q. Took z (Leads (rules-of (tree-of s)) q u S (goal above (formula-at (s .nodes) k) c ∷ rest) u P) y) (sym is) led);
+              subst (λ q. Took z (Leads (rules-of (tree-of s)) (pending s gs fs n) u S q u P) y) (sym put)
+              (subst (λ q. Took z (Leads (rules-of (tree-of s)) q u S (goal above (formula-at (s .nodes) k) c ∷ rest) u P) y) (sym is) led);
           fit = (good-push (good-pop (fit .0)) x room (stands-part k c inner), omega (arith, fit .1));
           less = omega arith;
           alive = alive-in;
@@ -272,8 +272,8 @@ module _ (s : Sheet) (w : ℕ) (wide : w ≡ s .«field_count») (gs : List Goal
         (subst (λ q. Moves s (pending s gs fs n) u S z (spot (set mid (n - 1 + 1) a) fs q) P y) (sym ed″)
         (record {
           took =
-            subst (λ q. Took z (Leads (rules-of (tree-of s)) (pending s gs fs n) u S q u P) y) (sym put)
-            (subst (λ v. Took z (Leads (rules-of (tree-of s)) v u S (goal above (formula-at (s .nodes) k) p ∷ goal above (formula-at (s .nodes) c) q ∷ rest) u P) y) (sym is) led);
+              subst (λ q. Took z (Leads (rules-of (tree-of s)) (pending s gs fs n) u S q u P) y) (sym put)
+              (subst (λ v. Took z (Leads (rules-of (tree-of s)) v u S (goal above (formula-at (s .nodes) k) p ∷ goal above (formula-at (s .nodes) c) q ∷ rest) u P) y) (sym is) led);
           fit = (good-push (good-push (good-pop (fit .0)) d room (stands-part c q inner′)) a room′ (stands-part k p inner), omega (arith, fit .1));
           less = omega arith;
           alive = alive-in;
@@ -299,8 +299,8 @@ module _ (s : Sheet) (w : ℕ) (wide : w ≡ s .«field_count») (gs : List Goal
         let framed : f < length fs = omega (arith, fit .0 .frames-hold) in
         let low : (i : ℕ) → i < n - 1 → getD gs i no-goal .frame < f = λ i l. fit .0 .stood i (omega arith) .frame in
         let put =
-          pending-push s gs (set fs f x) (n - 1) a room
-          ∙ (λ j. goal (arguments-of (getD-set-same fs f x no-frame framed j)) (formula-at (s .nodes) (line-at (s .lines) r .body)) c ∷ pending-frame s gs fs f x (n - 1) low j) in
+        pending-push s gs (set fs f x) (n - 1) a room
+        ∙ (λ j. goal (arguments-of (getD-set-same fs f x no-frame framed j)) (formula-at (s .nodes) (line-at (s .lines) r .body)) c ∷ pending-frame s gs fs f x (n - 1) low j) in
         let l = ap load is in
         let m = ap mass is in
         let l′ = ap load put in
@@ -313,22 +313,23 @@ module _ (s : Sheet) (w : ℕ) (wide : w ≡ s .«field_count») (gs : List Goal
         let back : u ≡ suc (u - 1) = omega arith in
         let prod : u * K ≡ (u - 1) * K + K = ap (λ q. q * K) back ∙ suc-mul (u - 1) K in
         let stood : Stood s (set fs f x) (f + 1) a =
-          record {
-            line = r;
-            within = (omega (arith, inner), line .1, omega arith);
-            frame = omega arith;
-            count = ap (λ q. q .count) (getD-set-same fs f x no-frame framed) ∙ counted
-          } in
+        record {
+          line = r;
+          within = (omega (arith, inner), line .1, omega arith);
+          frame = omega arith;
+          count = ap (λ q. q .count) (getD-set-same fs f x no-frame framed) ∙ counted;
+        } in
         subst (λ q. Moves s (pending s gs fs n) u S z (spot q fs′ D) P y) (sym eg)
         (subst (λ q. Moves s (pending s gs fs n) u S z (spot (set gs (n - 1) a) q D) P y) (sym ef)
         (subst (λ q. Moves s (pending s gs fs n) u S z (spot (set gs (n - 1) a) (set fs f x) q) P y) (sym ed)
         (record {
           took =
-            subst (λ q. Took z (Leads (rules-of (tree-of s)) (pending s gs fs n) u S q (u - 1) P) y) (sym put)
-            (subst (λ v. Took z (Leads (rules-of (tree-of s)) v u S (goal (arguments-of x) (formula-at (s .nodes) (line-at (s .lines) r .body)) c ∷ rest) (u - 1) P) y) (sym is) led);
-          fit =
-            (good-push (good-call (good-pop (fit .0)) x fueled (subst (λ k. FrameOkay k x) wide ok)) a room stood,
-             omega (arith, fit .1));
+              subst (λ q. Took z (Leads (rules-of (tree-of s)) (pending s gs fs n) u S q (u - 1) P) y) (sym put)
+              (subst (λ v. Took z (Leads (rules-of (tree-of s)) v u S (goal (arguments-of x) (formula-at (s .nodes) (line-at (s .lines) r .body)) c ∷ rest) (u - 1) P) y) (sym is) led);
+          fit = (
+            good-push (good-call (good-pop (fit .0)) x fueled (subst (λ k. FrameOkay k x) wide ok)) a room stood,
+            omega (arith, fit .1),
+          );
           less = omega arith;
           alive = alive-in;
         })))

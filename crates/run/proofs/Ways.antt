@@ -52,7 +52,7 @@ module _ {z : Way} where
         does = f _ (h .does);
         guided = h .guided;
         stuck = h .stuck;
-        end = h .end
+        end = h .end;
       }
 
   -- the way goes on
@@ -68,7 +68,7 @@ module _ {z : Way} where
         does = subst N (append-assoc (h .before) (took 0 (h .choice) ∷ h .after) (r .0)) (r .1);
         guided = h .guided;
         stuck = h .stuck;
-        end = h .end
+        end = h .end;
       }
 
   -- a trace was taken before
@@ -92,10 +92,10 @@ pub fits-on :
 fits-on f h =
     record {
       room = λ t m.
-        let r = f t m in
-        let k = h .room (t ++ r .0) (r .1) in
-        let l = length-append t (r .0) in
-        record { picks-hold = omega (arith, k .picks-hold); widths-hold = omega (arith, k .widths-hold) }
+          let r = f t m in
+          let k = h .room (t ++ r .0) (r .1) in
+          let l = length-append t (r .0) in
+          record { picks-hold = omega (arith, k .picks-hold); widths-hold = omega (arith, k .widths-hold) };
     }
 
 pub fits-after :
@@ -104,11 +104,11 @@ pub fits-after :
 fits-after {z} {y} {M} {N} {L} f a h =
     record {
       room = λ u n.
-        subst (Room (length u)) (sym (a .end))
-        (let k = h .room (a .trace ++ u) (f _ u (a .does) n) in
-        let l = length-append (a .trace) u in
-        let p = written-picks (z .trail) (a .trace) in
-        let w = written-widths (z .trail) (a .trace) in
-        let i = written-at (z .trail) (a .trace) in
-        record { picks-hold = omega (arith, k .picks-hold); widths-hold = omega (arith, k .widths-hold) })
+          subst (Room (length u)) (sym (a .end))
+          (let k = h .room (a .trace ++ u) (f _ u (a .does) n) in
+          let l = length-append (a .trace) u in
+          let p = written-picks (z .trail) (a .trace) in
+          let w = written-widths (z .trail) (a .trace) in
+          let i = written-at (z .trail) (a .trace) in
+          record { picks-hold = omega (arith, k .picks-hold); widths-hold = omega (arith, k .widths-hold) });
     }

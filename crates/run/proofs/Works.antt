@@ -52,26 +52,28 @@ module _ (s : Sheet) (gs : List Goal) (fs : List Frame) (fuel : ℕ) (hg : 16 * 
       let few-joins = subst (λ F. joins F ≤ 16) (sym (mark-is s)) (line-joins s (s .«rule_count») (omega arith)) in
       let line = s .«lines_kept» (s .«rule_count») (omega arith) in
       let stood : Stood s (set fs 0 blank) 1 start-goal =
+      record {
+        line = s .«rule_count»;
+        within = (omega arith, line .1, omega arith);
+        frame = omega arith;
+        count = ap (λ q. q .count) (getD-set-same fs 0 blank no-frame b) ∙ sym (s .«mark_plain»);
+      } in
+      let okay : FrameOkay (s .«field_count») blank = record { few = omega arith; each = blank-okay (s .«field_count») } in (
         record {
-          line = s .«rule_count»;
-          within = (omega arith, line .1, omega arith);
-          frame = omega arith;
-          count = ap (λ q. q .count) (getD-set-same fs 0 blank no-frame b) ∙ sym (s .«mark_plain»)
-        } in
-      let okay : FrameOkay (s .«field_count») blank = record { few = omega arith; each = blank-okay (s .«field_count») } in
-      ( record {
           hold = omega arith;
           frames-hold = omega arith;
           few = omega arith;
           stood = λ i h.
-            let z : 0 ≡ i = omega arith in
-            subst (λ q. Stood s (set fs 0 blank) 1 (getD (set gs 0 start-goal) q no-goal)) z
-            (subst (Stood s (set fs 0 blank) 1) (sym (getD-set-same gs 0 start-goal no-goal a)) stood);
+              let z : 0 ≡ i = omega arith in
+              subst (λ q. Stood s (set fs 0 blank) 1 (getD (set gs 0 start-goal) q no-goal)) z
+              (subst (Stood s (set fs 0 blank) 1) (sym (getD-set-same gs 0 start-goal no-goal a)) stood);
           okay = λ i h.
-            let z : 0 ≡ i = omega arith in
-            subst (λ q. FrameOkay (s .«field_count») (getD (set fs 0 blank) q no-frame)) z
-            (subst (FrameOkay (s .«field_count»)) (sym (getD-set-same fs 0 blank no-frame b)) okay);
-        }, omega arith )
+              let z : 0 ≡ i = omega arith in
+              subst (λ q. FrameOkay (s .«field_count») (getD (set fs 0 blank) q no-frame)) z
+              (subst (FrameOkay (s .«field_count»)) (sym (getD-set-same fs 0 blank no-frame b)) okay);
+        },
+        omega arith,
+      )
 
 module _ (rules : List Rule) (F : Formula) (n : ℕ) (S : Marks) (z : Way) where
   abbrev pub Whole : List Waiting → ℕ → Marks → Way → Type 0
@@ -97,4 +99,5 @@ module _ (rules : List Rule) (F : Formula) (n : ℕ) (S : Marks) (z : Way) where
     work-done w l e = record {
       fuel = k;
       took = took-map (λ v m. subst (λ q. Matches rules [] F true (live n S) q (live k P)) (append-nil v) (alone rules (m [] (live k P) (subst (λ q. Solves rules q (live k P) [] (live k P)) (sym e) solved)))) whole;
-      alive = l }
+      alive = l;
+    }

@@ -19,8 +19,13 @@ use Rattle.meaning.specs.Runs.{Outcome, mark, dead-end, spent-run, Run}
 use Rattle.run.specs.declared.answer.Ended.{Ended}
 use Rattle.run.specs.declared.along.End.{End}
 use Rattle.run.specs.declared.along.End.the-variants.{Mark, DeadEnd, Spent, Halted}
-use Rattle.run.specs.Answering.{Setting, Lists, LongEnough, SameFields, Barred, filled, outcome-of}
+use Rattle.run.specs.Answering.{Setting, Lists, LongEnough, SameFields, Barred, Inside, filled, outcome-of}
 use Rattle.run.specs.Ways.{Way, Took, Halt}
+
+-- a run leaves the number of fields and the starting set of a store, and a current set within the starting set
+abbrev pub RunsWithin : {X : Type 0} (width : X → ℕ) (starting current : X → Marks) (before after : X) → Type 0
+RunsWithin width starting current before after =
+    (width after ≡ width before) × (starting after ≡ starting before) × Inside (current after) (starting before)
 
 -- whether the lists are long enough
 abbrev pub Enough : Bool → (fuel fields given : ℕ) → Lists → Type 0

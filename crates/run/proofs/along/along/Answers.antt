@@ -43,7 +43,7 @@ returns-then-not-begin g c =
     let gone : some (st .width T) (st .current T) ≡ false = sym (c .begin .ensures .tells) ∙ c .if-not-begin .taken in
     record {
       same = (same .0, same .1, within);
-      left = dead-at-once t n S B z (subst Empty cur (none-empty (st .width T) (st .current T) (st .sound .left T) gone))
+      left = dead-at-once t n S B z (subst Empty cur (none-empty (st .width T) (st .current T) (st .sound .left T) gone));
     }
 
 pub work-requires : need.work-requires
@@ -76,7 +76,7 @@ work-requires g c κs =
       some = left;
       goals = c .pre .goals;
       frames = c .pre .frames;
-      room = subst (λ Q. Fits z (Matching rules F n Q)) (sym cur) (match-fits t n S B C alive z room)
+      room = subst (λ Q. Fits z (Matching rules F n Q)) (sym cur) (match-fits t n S B C alive z room);
     }
 
 pub returns-in-Halted : need.returns-in-Halted
@@ -217,7 +217,7 @@ finish-requires g c κs =
     record {
       few = omega (arith, long, eight);
       some = subst (λ q. some q P ≡ true) (sym (worked .0)) (k .alive);
-      room = subst (λ q. Fits y (Ending 0 q P)) (sym long) (end-fits t n S B C alive z (k .fuel) P y (k .took) room)
+      room = subst (λ q. Fits y (Ending 0 q P)) (sym long) (end-fits t n S B C alive z (k .fuel) P y (k .took) room);
     }
 
 pub returns-in-None : need.returns-in-None
@@ -258,7 +258,7 @@ returns-in-None g c =
     let ended = c .finish .ensures .same in
     record {
       same = (ended .0 ∙ sw, ended .1 ∙ ss, λ m h. inner m (ended .2 m h));
-      left = end-halt t n S B C alive z (k .fuel) P y (k .took) y′ (subst (λ q. Finished q P y None Q y′) long (c .in-None .ensures tt .left))
+      left = end-halt t n S B C alive z (k .fuel) P y (k .took) y′ (subst (λ q. Finished q P y None Q y′) long (c .in-None .ensures tt .left));
     }
 
 pub returns-in-Some : need.returns-in-Some
@@ -300,5 +300,5 @@ returns-in-Some g c =
     record {
       same = (ended .0 ∙ sw, ended .1 ∙ ss, λ m h. inner m (ended .2 m h));
       left = end-mark t n S B C alive z (k .fuel) P y (k .took) (take (fields-of t) (c .in-Some .numbers)) Q y′
-        (subst (λ q. Finished q P y (Some (c .in-Some .numbers)) Q y′) long (c .in-Some .ensures tt .left))
+          (subst (λ q. Finished q P y (Some (c .in-Some .numbers)) Q y′) long (c .in-Some .ensures tt .left));
     }

@@ -11,8 +11,11 @@ settle-requires g c κs =
     let guide = c .args .guide in
     let s = c .args .store .now in
     let z = way guide (c .args .picks .now) (c .args .widths .now) (c .args .at .now) (waits (c .args .source .now)) in
-    record { okay = c .pre .left; some = c .pre .some;
-      room = leave-fits (st .width s) (st .current s) z (c .pre .some) (c .args .x) (argument-of (c .args .y)) (c .in-None .ensures tt) (c .in-None-known .ensures tt) (c .pre .room) }
+    record {
+      okay = c .pre .left;
+      some = c .pre .some;
+      room = leave-fits (st .width s) (st .current s) z (c .pre .some) (c .args .x) (argument-of (c .args .y)) (c .in-None .ensures tt) (c .in-None-known .ensures tt) (c .pre .room);
+    }
 
 pub returns-in-Some : need.returns-in-Some
 returns-in-Some g c =

@@ -49,8 +49,11 @@ settle-requires g c κs =
     let led = subst (λ q. Took z (EndLeads w S i q Sᵢ (take i m)) y) step (inv .5) in
     let C = counted (st .width sᵢ) Sᵢ (st .sound .left sᵢ) in
     let alive = some-alive w Sᵢ (inv .4) in
-    record { okay = omega (arith, inv .0, c .loop-i-test .taken); some = subst (λ q. some q Sᵢ ≡ true) (sym (inv .0)) (inv .4);
-      room = end-fits w z S Sᵢ y i (w - suc i) (take i m) led C alive (c .pre .room) }
+    record {
+      okay = omega (arith, inv .0, c .loop-i-test .taken);
+      some = subst (λ q. some q Sᵢ ≡ true) (sym (inv .0)) (inv .4);
+      room = end-fits w z S Sᵢ y i (w - suc i) (take i m) led C alive (c .pre .room);
+    }
 
 pub returns-in-None : need.returns-in-None
 returns-in-None g c =
@@ -74,8 +77,10 @@ returns-in-None g c =
     let alive = some-alive w Sᵢ (inv .4) in
     let P = st .current (c .settle .last .store) in
     let y′ = way guide (c .settle .last .picks) (c .settle .last .widths) (c .settle .last .at) (waits (c .settle .last .source)) in
-    record { same = (c .settle .ensures .same .0 ∙ inv .0, c .settle .ensures .same .1 ∙ inv .1, λ k h. inv .2 k (c .settle .ensures .same .2 k h));
-      left = end-halt w z S Sᵢ y i (w - suc i) (take i m) led C alive y′ (c .in-None .ensures tt .left) }
+    record {
+      same = (c .settle .ensures .same .0 ∙ inv .0, c .settle .ensures .same .1 ∙ inv .1, λ k h. inv .2 k (c .settle .ensures .same .2 k h));
+      left = end-halt w z S Sᵢ y i (w - suc i) (take i m) led C alive y′ (c .in-None .ensures tt .left);
+    }
 
 pub loop-i-again : need.loop-i-again
 loop-i-again g c =
@@ -101,9 +106,14 @@ loop-i-again g c =
     let y′ = way guide (c .settle .last .picks) (c .settle .last .widths) (c .settle .last .at) (waits (c .settle .last .source)) in
     let v = c .in-Some .v in
     let k = subst (λ q. Settled q Sᵢ (Field i) y (Some v) P y′) (inv .0) (c .in-Some .ensures tt .left) in
-    let l : i < length m = omega (arith, inv .3, c .pre .few, c .loop-i-test .taken) in
-    (c .settle .ensures .same .0 ∙ inv .0, c .settle .ensures .same .1 ∙ inv .1, (λ k h. inv .2 k (c .settle .ensures .same .2 k h)), length-set m i v ∙ inv .3, k .alive,
-     subst (λ q. Took z (EndLeads w S q (w - q) P (take q (set m i v))) y′) (sym (add-one i)) (end-more w z S Sᵢ y i (w - suc i) (take i m) led v P y′ (take (suc i) (set m i v)) (k .took) (take-push m i v l)))
+    let l : i < length m = omega (arith, inv .3, c .pre .few, c .loop-i-test .taken) in (
+      c .settle .ensures .same .0 ∙ inv .0,
+      c .settle .ensures .same .1 ∙ inv .1,
+      (λ k h. inv .2 k (c .settle .ensures .same .2 k h)),
+      length-set m i v ∙ inv .3,
+      k .alive,
+      subst (λ q. Took z (EndLeads w S q (w - q) P (take q (set m i v))) y′) (sym (add-one i)) (end-more w z S Sᵢ y i (w - suc i) (take i m) led v P y′ (take (suc i) (set m i v)) (k .took) (take-push m i v l)),
+    )
 
 pub returns : need.returns
 returns g c =

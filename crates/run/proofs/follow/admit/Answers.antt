@@ -18,9 +18,10 @@ returns-then-not-long-enough g c =
     let sh = c .args .sheet .now in
     let w = g .S·Store .width (c .args .store .now) in
     let wide : w ≡ sh .«field_count» = omega (arith, c .fields .ensures, c .if-fields-sheet .left) in
-    let l = lists (c .args .picks .now) (c .args .widths .now) (c .args .mark .now) (length (c .args .goals .now)) (length (c .args .frames .now)) in
-    (list-short refl (wide ∙ sym (fields-are sh)) (subst (λ k. LongEnough (c .args .fuel) k (c .args .given) l → ⊥) (sym wide) (c .if-not-long-enough .ensures tt)),
-     (λ e. omega (arith, e)))
+    let l = lists (c .args .picks .now) (c .args .widths .now) (c .args .mark .now) (length (c .args .goals .now)) (length (c .args .frames .now)) in (
+      list-short refl (wide ∙ sym (fields-are sh)) (subst (λ k. LongEnough (c .args .fuel) k (c .args .given) l → ⊥) (sym wide) (c .if-not-long-enough .ensures tt)),
+      (λ e. omega (arith, e)),
+    )
 
 pub returns : need.returns
 returns g c =

@@ -59,17 +59,19 @@ returns-in-Some g c =
     record {
       same = (kept .0, kept .1);
       current = kept .2;
-      left =
-        (same-fields, long,
-         record {
-           trace = k .trace;
-           result = ran o;
-           draw = draws (k .does) (guided-takes ns (k .trace) rest (k .guided));
-           long = omega (arith, ap (λ q. q .at) (k .end), written-at (trail ps ws 0) (k .trace));
-           written = record { picks = ap (λ q. q .picks) (k .end) ∙ lists-hold .0; widths = ap (λ q. q .widths) (k .end) ∙ lists-hold .1 };
-           told = refl;
-           marked = told .1
-         })
+      left = (
+        same-fields,
+        long,
+        record {
+          trace = k .trace;
+          result = ran o;
+          draw = draws (k .does) (guided-takes ns (k .trace) rest (k .guided));
+          long = omega (arith, ap (λ q. q .at) (k .end), written-at (trail ps ws 0) (k .trace));
+          written = record { picks = ap (λ q. q .picks) (k .end) ∙ lists-hold .0; widths = ap (λ q. q .widths) (k .end) ∙ lists-hold .1 };
+          told = refl;
+          marked = told .1;
+        },
+      );
     }
 
 pub returns-in-None : need.returns-in-None
@@ -110,19 +112,21 @@ returns-in-None g c =
     record {
       same = (kept .0, kept .1);
       current = kept .2;
-      left =
-        (same-fields, long,
-         record {
-           trace = h .before;
-           result = dry;
-           draw =
-             subst (λ q. Draws t fuel S ns dry (h .before) q) (sym none)
-             (runs-dry (took 0 (h .choice)) (h .after) (h .does .1) (subst (Takes ns (h .before)) none takes));
-           long = omega (arith, ap (λ q. q .at) (h .end), written-at (trail ps ws 0) (h .before));
-           written = record { picks = ap (λ q. q .picks) (h .end) ∙ lists-hold .0; widths = ap (λ q. q .widths) (h .end) ∙ lists-hold .1 };
-           told = refl;
-           marked = told .1
-         })
+      left = (
+        same-fields,
+        long,
+        record {
+          trace = h .before;
+          result = dry;
+          draw =
+              subst (λ q. Draws t fuel S ns dry (h .before) q) (sym none)
+              (runs-dry (took 0 (h .choice)) (h .after) (h .does .1) (subst (Takes ns (h .before)) none takes));
+          long = omega (arith, ap (λ q. q .at) (h .end), written-at (trail ps ws 0) (h .before));
+          written = record { picks = ap (λ q. q .picks) (h .end) ∙ lists-hold .0; widths = ap (λ q. q .widths) (h .end) ∙ lists-hold .1 };
+          told = refl;
+          marked = told .1;
+        },
+      );
     }
 
 pub along-end-requires : need.along-end-requires

@@ -51,9 +51,10 @@ returns-then-at-given g c =
     record {
       same = (kept .0, kept .1);
       current = ((λ e. kept .2), (λ e. absurd (e refl)));
-      left =
-        (inr (record { number = refl; fields = same-fields; long = long; none = unfit-none t fuel S B z y end _ _ went more }),
-         record { picks = same .0; widths = same .1; mark = refl })
+      left = (
+        inr (record { number = refl; fields = same-fields; long = long; none = unfit-none t fuel S B z y end _ _ went more }),
+        record { picks = same .0; widths = same .1; mark = refl },
+      );
     }
 
 pub returns-in-Some : need.returns-in-Some
@@ -95,19 +96,21 @@ returns-in-Some g c =
     record {
       same = (kept .0, kept .1);
       current = kept .2;
-      left =
-        (same-fields, long,
-         record {
-           trace = k .trace;
-           outcome = o;
-           run = k .does;
-           guided = g′;
-           only = λ u a r p. only-run t fuel S B (z .guide) (recorded []) (k .trace) u o a (k .does) g′ r p;
-           long = omega (arith, ap (λ q. q .at) (k .end), written-at (trail ps ws 0) (k .trace));
-           written = record { picks = ap (λ q. q .picks) (k .end) ∙ lists-hold .0; widths = ap (λ q. q .widths) (k .end) ∙ lists-hold .1 };
-           told = refl;
-           marked = told .1
-         })
+      left = (
+        same-fields,
+        long,
+        record {
+          trace = k .trace;
+          outcome = o;
+          run = k .does;
+          guided = g′;
+          only = λ u a r p. only-run t fuel S B (z .guide) (recorded []) (k .trace) u o a (k .does) g′ r p;
+          long = omega (arith, ap (λ q. q .at) (k .end), written-at (trail ps ws 0) (k .trace));
+          written = record { picks = ap (λ q. q .picks) (k .end) ∙ lists-hold .0; widths = ap (λ q. q .widths) (k .end) ∙ lists-hold .1 };
+          told = refl;
+          marked = told .1;
+        },
+      );
     }
 
 pub returns-in-None : need.returns-in-None

@@ -57,8 +57,12 @@ resolve-requires g c κs =
     let led = subst (λ q. Took z (PassLeads e S (terms ts n) Sᵢ q m) y) (from-next ts i n (c .loop-i-test .taken)) (inv .7) in
     let C = counted (st .width sᵢ) Sᵢ (st .sound .left sᵢ) in
     let alive = some-alive w Sᵢ (inv .6) in
-    record { frame = subst (λ k. FrameOkay k (c .args .frame)) (sym (inv .0)) (c .pre .frame); okay = subst (λ k. TermOkay k (c .args .frame .count) (getD ts i (Number 0))) (sym (inv .0)) (c .pre .okay .1 i (omega (arith, c .pre .okay .0))); some = subst (λ k. some k Sᵢ ≡ true) (sym (inv .0)) (inv .6);
-      room = pass-fits e w z S (terms ts n) Sᵢ y m x us led C alive (c .pre .room) }
+    record {
+      frame = subst (λ k. FrameOkay k (c .args .frame)) (sym (inv .0)) (c .pre .frame);
+      okay = subst (λ k. TermOkay k (c .args .frame .count) (getD ts i (Number 0))) (sym (inv .0)) (c .pre .okay .1 i (omega (arith, c .pre .okay .0)));
+      some = subst (λ k. some k Sᵢ ≡ true) (sym (inv .0)) (inv .6);
+      room = pass-fits e w z S (terms ts n) Sᵢ y m x us led C alive (c .pre .room);
+    }
 
 pub returns-in-None : need.returns-in-None
 returns-in-None g c =
@@ -85,8 +89,10 @@ returns-in-None g c =
     let alive = some-alive w Sᵢ (inv .6) in
     let P = st .current (c .resolve .last .store) in
     let y′ = way guide (c .resolve .last .picks) (c .resolve .last .widths) (c .resolve .last .at) (waits (c .resolve .last .source)) in
-    record { same = (c .resolve .ensures .same .0 ∙ inv .0, c .resolve .ensures .same .1 ∙ inv .1, λ k h. inv .2 k (c .resolve .ensures .same .2 k h));
-      left = pass-halt e w z S (terms ts n) Sᵢ y m x us led C alive y′ (c .in-None .ensures tt .left) }
+    record {
+      same = (c .resolve .ensures .same .0 ∙ inv .0, c .resolve .ensures .same .1 ∙ inv .1, λ k h. inv .2 k (c .resolve .ensures .same .2 k h));
+      left = pass-halt e w z S (terms ts n) Sᵢ y m x us led C alive y′ (c .in-None .ensures tt .left);
+    }
 
 pub add-made : need.add-made
 add-made g c = omega (arith, c .loop-i .inv .3, c .loop-i-test .taken, c .pre .okay .0)
@@ -119,10 +125,16 @@ loop-i-again g c =
     let k = subst (λ q. Resolved q e Sᵢ x y (Some (c .in-Some .a)) P y′) (inv .0) (c .in-Some .ensures tt .left) in
     let four = inv .4 in
     let l : i < length (m .arguments) = omega (arith, c .pre .okay .0) in
-    let m′ : Frame = record { arguments = set (m .arguments) i (c .in-Some .a); count = m .count + 1 } in
-    (c .resolve .ensures .same .0 ∙ inv .0, c .resolve .ensures .same .1 ∙ inv .1, (λ k h. inv .2 k (c .resolve .ensures .same .2 k h)), ap (λ q. q + 1) (inv .3), length-set (m .arguments) i (c .in-Some .a) ∙ inv .4,
-     args-okay w (m .arguments) i (c .in-Some .a) l (k .okay) (inv .5), k .alive,
-     subst (λ q. Took z (PassLeads e S (terms ts n) P (from ts q (n - q)) m′) y′) (sym (add-one i)) (pass-more e w z S (terms ts n) Sᵢ y m x us led (c .in-Some .a) P y′ m′ (k .took) (arguments-more m m′ i (c .in-Some .a) l (inv .3) refl refl)))
+    let m′ : Frame = record { arguments = set (m .arguments) i (c .in-Some .a); count = m .count + 1 } in (
+      c .resolve .ensures .same .0 ∙ inv .0,
+      c .resolve .ensures .same .1 ∙ inv .1,
+      (λ k h. inv .2 k (c .resolve .ensures .same .2 k h)),
+      ap (λ q. q + 1) (inv .3),
+      length-set (m .arguments) i (c .in-Some .a) ∙ inv .4,
+      args-okay w (m .arguments) i (c .in-Some .a) l (k .okay) (inv .5),
+      k .alive,
+      subst (λ q. Took z (PassLeads e S (terms ts n) P (from ts q (n - q)) m′) y′) (sym (add-one i)) (pass-more e w z S (terms ts n) Sᵢ y m x us led (c .in-Some .a) P y′ m′ (k .took) (arguments-more m m′ i (c .in-Some .a) l (inv .3) refl refl)),
+    )
 
 pub returns : need.returns
 returns g c =

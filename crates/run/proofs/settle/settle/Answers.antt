@@ -26,7 +26,7 @@ returns-in-Number g c =
     record {
       same = (refl, refl, λ m h. h);
       left = subst (λ q. Settled (st .width s) (st .current s) q z (Some n) (st .current s) z) (sym (c .in-Number .is))
-        (number-done (st .width s) (st .current s) n z ok (c .pre .some))
+          (number-done (st .width s) (st .current s) n z ok (c .pre .some));
     }
 
 pub returns-then-c-eq1 : need.returns-then-c-eq1
@@ -41,8 +41,8 @@ returns-then-c-eq1 g c =
     record {
       same = (refl, refl, λ m h. h);
       left = subst (λ q. Settled (st .width s) (st .current s) q z (c .value .result) (st .current s) z) (sym (c .in-Field .is))
-        (known-done (st .width s) (st .current s) f (st .sound .left s) ok z (c .pre .some) (c .value .result)
-         (sym (c .count-c .ensures .1) ∙ c .if-c-eq1 .taken) (c .value .ensures .1))
+          (known-done (st .width s) (st .current s) f (st .sound .left s) ok z (c .pre .some) (c .value .result)
+          (sym (c .count-c .ensures .1) ∙ c .if-c-eq1 .taken) (c .value .ensures .1));
     }
 
 pub cast-c : need.cast-c
@@ -64,7 +64,7 @@ choose-requires g c κs =
     record {
       usable = omega (arith, c .count-c .ensures .1, some-values (st .width s) (st .current s) f (st .sound .left s) ok (c .pre .some));
       room = one-fits (st .width s) (st .current s) f (st .sound .left s) ok z (c .pre .some) wide
-        (subst (λ q. Fits z (Settling (st .current s) (argument-of q))) (c .in-Field .is) (c .pre .room))
+          (subst (λ q. Fits z (Settling (st .current s) (argument-of q))) (c .in-Field .is) (c .pre .room));
     }
 
 pub keep-value-requires : need.keep-value-requires
@@ -90,8 +90,8 @@ returns-in-Some g c =
     record {
       same = c .keep-value .ensures .same;
       left = subst (λ q. Settled (st .width s) (st .current s) q z r P y) (sym (c .in-Field .is))
-        (chosen-done (st .width s) (st .current s) f (st .sound .left s) ok z (c .pre .some) y wide (c .in-Some .k) r P
-         (subst (λ q. Chosen (among q) z (Some (c .in-Some .k)) y) (c .count-c .ensures .1) (c .in-Some .ensures tt)) (c .keep-value .ensures .left))
+          (chosen-done (st .width s) (st .current s) f (st .sound .left s) ok z (c .pre .some) y wide (c .in-Some .k) r P
+          (subst (λ q. Chosen (among q) z (Some (c .in-Some .k)) y) (c .count-c .ensures .1) (c .in-Some .ensures tt)) (c .keep-value .ensures .left));
     }
 
 pub returns-in-None : need.returns-in-None
@@ -108,6 +108,6 @@ returns-in-None g c =
     record {
       same = (refl, refl, λ m h. h);
       left = subst (λ q. Settled (st .width s) (st .current s) q z None (st .current s) y) (sym (c .in-Field .is))
-        (chosen-halted (st .width s) (st .current s) f (st .sound .left s) ok z (c .pre .some) y wide (st .current s)
-         (subst (λ q. Chosen (among q) z None y) (c .count-c .ensures .1) (c .in-None .ensures tt)))
+          (chosen-halted (st .width s) (st .current s) f (st .sound .left s) ok z (c .pre .some) y wide (st .current s)
+          (subst (λ q. Chosen (among q) z None y) (c .count-c .ensures .1) (c .in-None .ensures tt)));
     }

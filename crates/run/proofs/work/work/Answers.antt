@@ -26,9 +26,14 @@ run-holds g c =
     let F = mark-line (tree-of sh) in
     let n = c .args .fuel in
     let gs = c .args .goals .now in
-    let fs = c .args .frames .now in
-    (refl, refl, (λ m h. h), c .pre .some, first-fit sh gs fs n (c .pre .goals) (c .pre .frames) (omega arith),
-     begun rules F n S z _ (first-stack sh gs fs n (c .pre .goals) (c .pre .frames) (omega arith)))
+    let fs = c .args .frames .now in (
+      refl,
+      refl,
+      (λ m h. h),
+      c .pre .some,
+      first-fit sh gs fs n (c .pre .goals) (c .pre .frames) (omega arith),
+      begun rules F n S z _ (first-stack sh gs fs n (c .pre .goals) (c .pre .frames) (omega arith)),
+    )
 
 pub step-requires : need.step-requires
 step-requires g c κs =
@@ -55,7 +60,7 @@ step-requires g c κs =
       fit = inv .4;
       hold = inv .4 .0 .hold;
       more = c .run-test .taken;
-      room = work-fits rules F n S z gs k P y (inv .5) (c .pre .room)
+      room = work-fits rules F n S z gs k P y (inv .5) (c .pre .room);
     }
 
 pub run-less : need.run-less
