@@ -22,7 +22,8 @@ written-picks z (took p c ∷ t) = written-picks (put z p (width c)) t ∙ lengt
 
 pub written-widths : (z : Trail) (t : Trace) → length (written z t .widths) ≡ length (z .widths)
 written-widths z [] = refl
-written-widths z (took p c ∷ t) = written-widths (put z p (width c)) t ∙ length-set (z .widths) (z .at) (width c)
+written-widths z (took p c ∷ t) = written-widths (put z p (width c)) t ∙ length-set (z .widths) (z .at)
+    (width c)
 
 module _ {z : Way} where
   pub took-map : {M N : Trace → Type 0} {y : Way} → ((t : Trace) → M t → N t) → Took z M y → Took z N y
@@ -40,7 +41,8 @@ module _ {z : Way} where
         trace = a .trace ++ b .trace;
         does = f (a .trace) (b .trace) (a .does) (b .does);
         guided = guided-join (z .guide) (y .guide) (x .guide) (a .trace) (b .trace) (a .guided) (b .guided);
-        end = b .end ∙ ap (λ q. written q (b .trace)) (a .end) ∙ sym (written-join (z .trail) (a .trace) (b .trace));
+        end = b .end ∙ ap (λ q. written q (b .trace)) (a .end) ∙ sym
+            (written-join (z .trail) (a .trace) (b .trace));
       }
 
   pub halt-map : {M N : Trace → Type 0} {y : Way} → ((t : Trace) → M t → N t) → Halt z M y → Halt z N y
@@ -80,10 +82,12 @@ module _ {z : Way} where
         before = a .trace ++ h .before;
         choice = h .choice;
         after = h .after;
-        does = subst L (sym (append-assoc (a .trace) (h .before) (took 0 (h .choice) ∷ h .after))) (f _ _ (a .does) (h .does));
+        does = subst L (sym (append-assoc (a .trace) (h .before) (took 0 (h .choice) ∷ h .after)))
+            (f _ _ (a .does) (h .does));
         guided = guided-join (z .guide) (y .guide) (x .guide) (a .trace) (h .before) (a .guided) (h .guided);
         stuck = h .stuck;
-        end = h .end ∙ ap (λ q. written q (h .before)) (a .end) ∙ sym (written-join (z .trail) (a .trace) (h .before));
+        end = h .end ∙ ap (λ q. written q (h .before)) (a .end) ∙ sym
+            (written-join (z .trail) (a .trace) (h .before));
       }
 
 pub fits-on :

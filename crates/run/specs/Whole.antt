@@ -23,9 +23,12 @@ use Rattle.run.specs.Answering.{Setting, Lists, LongEnough, SameFields, Barred
 use Rattle.run.specs.Ways.{Way, Took, Halt}
 
 -- a run leaves the number of fields and the starting set of a store, and a current set within the starting set
-abbrev pub RunsWithin : {X : Type 0} (width : X → ℕ) (starting current : X → Marks) (before after : X) → Type 0
+abbrev pub RunsWithin :
+    {X : Type 0} (width : X → ℕ) (starting current : X → Marks) (before after : X)
+    → Type 0
 RunsWithin width starting current before after =
-    (width after ≡ width before) × (starting after ≡ starting before) × Inside (current after) (starting before)
+    (width after ≡ width before) × (starting after ≡ starting before)
+    × Inside (current after) (starting before)
 
 -- whether the lists are long enough
 abbrev pub Enough : Bool → (fuel fields given : ℕ) → Lists → Type 0

@@ -232,8 +232,8 @@ pub(crate) fn draw<S: Store, R: Source>(
         (lists (now (picks .exit)) (now (widths .exit)) (now (mark .exit)) (length (now (goals .exit)))
           (length (now (frames .exit)))) ⌝ }
 {
-    if let Err(refusal) = admit(sheet, store, fuel, 0, picks, widths, goals, frames, mark) {
-        return Err(refusal);
+    if let Err(barred) = admit(sheet, store, fuel, 0, picks, widths, goals, frames, mark) {
+        return Err(barred);
     }
     draw_admitted(
         sheet,

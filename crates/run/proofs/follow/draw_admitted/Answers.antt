@@ -42,7 +42,8 @@ returns-in-Some g c =
     let ns = waits (c .args .source .now) in
     let rest = waits (c .along-end .last .source) in
     let z = way Drawn ps ws 0 ns in
-    let y = way Drawn (c .along-end .last .picks) (c .along-end .last .widths) (c .along-end .last .at) rest in
+    let y = way Drawn (c .along-end .last .picks) (c .along-end .last .widths) (c .along-end .last .at) rest
+        in
     let long = c .pre .long in
     let end = c .along-end .result in
     let went = c .along-end .ensures .left in
@@ -53,8 +54,10 @@ returns-in-Some g c =
     let o = outcome-of ended w after in
     let k = along-took t fuel S z y end o (subst (λ q. end-of end q ≡ Some o) same-fields (told .0)) went in
     let short = lengths t fuel S B 16 (few-joins sh) (k .trace) o (k .does) in
-    let hp : length (k .trace) ≤ length ps = omega (arith, short, long .picks, fields-are sh, sh .«some_fields») in
-    let hw : length (k .trace) ≤ length ws = omega (arith, short, long .widths, fields-are sh, sh .«some_fields») in
+    let hp : length (k .trace) ≤ length ps = omega (arith, short, long .picks, fields-are sh, sh
+        .«some_fields») in
+    let hw : length (k .trace) ≤ length ws = omega (arith, short, long .widths, fields-are sh, sh
+        .«some_fields») in
     let lists-hold = written-over ps ws (k .trace) hp hw in
     record {
       same = (kept .0, kept .1);
@@ -67,7 +70,8 @@ returns-in-Some g c =
           result = ran o;
           draw = draws (k .does) (guided-takes ns (k .trace) rest (k .guided));
           long = omega (arith, ap (λ q. q .at) (k .end), written-at (trail ps ws 0) (k .trace));
-          written = record { picks = ap (λ q. q .picks) (k .end) ∙ lists-hold .0; widths = ap (λ q. q .widths) (k .end) ∙ lists-hold .1 };
+          written = record { picks = ap (λ q. q .picks) (k .end) ∙ lists-hold .0; widths = ap (λ q. q .widths)
+              (k .end) ∙ lists-hold .1 };
           told = refl;
           marked = told .1;
         },
@@ -94,7 +98,8 @@ returns-in-None g c =
     let ns = waits (c .args .source .now) in
     let rest = waits (c .along-end .last .source) in
     let z = way Drawn ps ws 0 ns in
-    let y = way Drawn (c .along-end .last .picks) (c .along-end .last .widths) (c .along-end .last .at) rest in
+    let y = way Drawn (c .along-end .last .picks) (c .along-end .last .widths) (c .along-end .last .at) rest
+        in
     let long = c .pre .long in
     let end = c .along-end .result in
     let went = c .along-end .ensures .left in
@@ -105,8 +110,10 @@ returns-in-None g c =
     let none = numbers-over rest (h .choice) (h .stuck) in
     let short = lengths t fuel S B 16 (few-joins sh) _ (h .does .0) (h .does .1) in
     let parts = length-append (h .before) (took 0 (h .choice) ∷ h .after) in
-    let hp : length (h .before) ≤ length ps = omega (arith, short, parts, long .picks, fields-are sh, sh .«some_fields») in
-    let hw : length (h .before) ≤ length ws = omega (arith, short, parts, long .widths, fields-are sh, sh .«some_fields») in
+    let hp : length (h .before) ≤ length ps = omega
+        (arith, short, parts, long .picks, fields-are sh, sh .«some_fields») in
+    let hw : length (h .before) ≤ length ws = omega
+        (arith, short, parts, long .widths, fields-are sh, sh .«some_fields») in
     let lists-hold = written-over ps ws (h .before) hp hw in
     let takes = guided-takes ns (h .before) rest (h .guided) in
     record {
@@ -120,9 +127,11 @@ returns-in-None g c =
           result = dry;
           draw =
               subst (λ q. Draws t fuel S ns dry (h .before) q) (sym none)
-              (runs-dry (took 0 (h .choice)) (h .after) (h .does .1) (subst (Takes ns (h .before)) none takes));
+              (runs-dry (took 0 (h .choice)) (h .after) (h .does .1)
+                  (subst (Takes ns (h .before)) none takes));
           long = omega (arith, ap (λ q. q .at) (h .end), written-at (trail ps ws 0) (h .before));
-          written = record { picks = ap (λ q. q .picks) (h .end) ∙ lists-hold .0; widths = ap (λ q. q .widths) (h .end) ∙ lists-hold .1 };
+          written = record { picks = ap (λ q. q .picks) (h .end) ∙ lists-hold .0; widths = ap (λ q. q .widths)
+              (h .end) ∙ lists-hold .1 };
           told = refl;
           marked = told .1;
         },
@@ -133,7 +142,8 @@ pub along-end-requires : need.along-end-requires
 along-end-requires g c κs =
     let sh = c .args .sheet .now in
     let long = c .pre .long in
-    record { fields = c .pre .fields ∙ fields-are sh; goals = long .goals; frames = long .frames; picks = long .picks; widths = long .widths; begun = refl }
+    record { fields = c .pre .fields ∙ fields-are sh; goals = long .goals; frames = long .frames; picks = long
+        .picks; widths = long .widths; begun = refl }
 
 pub report-requires : need.report-requires
 report-requires g c κs =

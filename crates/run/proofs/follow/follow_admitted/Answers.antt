@@ -39,20 +39,24 @@ returns-then-at-given g c =
     let l = lists ps ws m (length (c .args .goals .now)) (length (c .args .frames .now)) in
     let B = subst (λ k. MarksOf k S) same-fields (st .sound .started s) in
     let given = c .args .given in
-    let y = way (Recorded given) (c .along-end .last .picks) (c .along-end .last .widths) (c .along-end .last .at) (on-tape (c .along-end .last .source)) in
+    let y = way (Recorded given) (c .along-end .last .picks) (c .along-end .last .widths)
+        (c .along-end .last .at) (on-tape (c .along-end .last .source)) in
     let off : given - 0 ≡ given = omega arith in
     let long = c .pre .long in
     let end = c .along-end .result in
     let z : Way = record { trail = trail ps ws 0; guide = recorded (entries ps ws 0 given) } in
-    let went = subst (λ k. Along t fuel S (record { trail = trail ps ws 0; guide = recorded (entries ps ws 0 k) }) end y) off (c .along-end .ensures .left) in
+    let went = subst (λ k. Along t fuel S (record { trail = trail ps ws 0; guide = recorded
+        (entries ps ws 0 k) }) end y) off (c .along-end .ensures .left) in
     let kept = c .along-end .ensures .same in
-    let more = ap recorded (entries-next given (y .trail .picks) (y .trail .widths) (y .trail .at) (c .if-at-given .taken)) in
+    let more = ap recorded (entries-next given (y .trail .picks) (y .trail .widths) (y .trail .at)
+        (c .if-at-given .taken)) in
     let same = unfit-same t fuel S B ps ws given y end _ _ went more in
     record {
       same = (kept .0, kept .1);
       current = ((λ e. kept .2), (λ e. absurd (e refl)));
       left = (
-        inr (record { number = refl; fields = same-fields; long = long; none = unfit-none t fuel S B z y end _ _ went more }),
+        inr (record { number = refl; fields = same-fields; long = long; none = unfit-none t fuel S B z y end _
+            _ went more }),
         record { picks = same .0; widths = same .1; mark = refl },
       );
     }
@@ -74,12 +78,14 @@ returns-in-Some g c =
     let l = lists ps ws m (length (c .args .goals .now)) (length (c .args .frames .now)) in
     let B = subst (λ k. MarksOf k S) same-fields (st .sound .started s) in
     let given = c .args .given in
-    let y = way (Recorded given) (c .along-end .last .picks) (c .along-end .last .widths) (c .along-end .last .at) (on-tape (c .along-end .last .source)) in
+    let y = way (Recorded given) (c .along-end .last .picks) (c .along-end .last .widths)
+        (c .along-end .last .at) (on-tape (c .along-end .last .source)) in
     let off : given - 0 ≡ given = omega arith in
     let long = c .pre .long in
     let end = c .along-end .result in
     let z : Way = record { trail = trail ps ws 0; guide = recorded (entries ps ws 0 given) } in
-    let went = subst (λ k. Along t fuel S (record { trail = trail ps ws 0; guide = recorded (entries ps ws 0 k) }) end y) off (c .along-end .ensures .left) in
+    let went = subst (λ k. Along t fuel S (record { trail = trail ps ws 0; guide = recorded
+        (entries ps ws 0 k) }) end y) off (c .along-end .ensures .left) in
     let kept = c .along-end .ensures .same in
     let none : given - y .trail .at ≡ 0 = omega (arith, c .if-at-given .left) in
     let over = ap (λ k. recorded (entries (y .trail .picks) (y .trail .widths) (y .trail .at) k)) none in
@@ -90,8 +96,10 @@ returns-in-Some g c =
     let k = along-took t fuel S z y end o (subst (λ q. end-of end q ≡ Some o) same-fields (told .0)) went in
     let g′ = subst (Guided (z .guide) (k .trace)) over (k .guided) in
     let short = lengths t fuel S B 16 (few-joins sh) (k .trace) o (k .does) in
-    let hp : length (k .trace) ≤ length ps = omega (arith, short, long .picks, fields-are sh, sh .«some_fields») in
-    let hw : length (k .trace) ≤ length ws = omega (arith, short, long .widths, fields-are sh, sh .«some_fields») in
+    let hp : length (k .trace) ≤ length ps = omega (arith, short, long .picks, fields-are sh, sh
+        .«some_fields») in
+    let hw : length (k .trace) ≤ length ws = omega (arith, short, long .widths, fields-are sh, sh
+        .«some_fields») in
     let lists-hold = written-over ps ws (k .trace) hp hw in
     record {
       same = (kept .0, kept .1);
@@ -106,7 +114,8 @@ returns-in-Some g c =
           guided = g′;
           only = λ u a r p. only-run t fuel S B (z .guide) (recorded []) (k .trace) u o a (k .does) g′ r p;
           long = omega (arith, ap (λ q. q .at) (k .end), written-at (trail ps ws 0) (k .trace));
-          written = record { picks = ap (λ q. q .picks) (k .end) ∙ lists-hold .0; widths = ap (λ q. q .widths) (k .end) ∙ lists-hold .1 };
+          written = record { picks = ap (λ q. q .picks) (k .end) ∙ lists-hold .0; widths = ap (λ q. q .widths)
+              (k .end) ∙ lists-hold .1 };
           told = refl;
           marked = told .1;
         },
@@ -130,12 +139,14 @@ returns-in-None g c =
     let l = lists ps ws m (length (c .args .goals .now)) (length (c .args .frames .now)) in
     let B = subst (λ k. MarksOf k S) same-fields (st .sound .started s) in
     let given = c .args .given in
-    let y = way (Recorded given) (c .along-end .last .picks) (c .along-end .last .widths) (c .along-end .last .at) (on-tape (c .along-end .last .source)) in
+    let y = way (Recorded given) (c .along-end .last .picks) (c .along-end .last .widths)
+        (c .along-end .last .at) (on-tape (c .along-end .last .source)) in
     let off : given - 0 ≡ given = omega arith in
     let long = c .pre .long in
     let end = c .along-end .result in
     let z : Way = record { trail = trail ps ws 0; guide = recorded (entries ps ws 0 given) } in
-    let went = subst (λ k. Along t fuel S (record { trail = trail ps ws 0; guide = recorded (entries ps ws 0 k) }) end y) off (c .along-end .ensures .left) in
+    let went = subst (λ k. Along t fuel S (record { trail = trail ps ws 0; guide = recorded
+        (entries ps ws 0 k) }) end y) off (c .along-end .ensures .left) in
     let kept = c .along-end .ensures .same in
     let none : given - y .trail .at ≡ 0 = omega (arith, c .if-at-given .left) in
     let over = ap (λ k. recorded (entries (y .trail .picks) (y .trail .widths) (y .trail .at) k)) none in
@@ -148,7 +159,8 @@ pub along-end-requires : need.along-end-requires
 along-end-requires g c κs =
     let sh = c .args .sheet .now in
     let long = c .pre .long in
-    record { fields = c .pre .fields ∙ fields-are sh; goals = long .goals; frames = long .frames; picks = long .picks; widths = long .widths; begun = refl }
+    record { fields = c .pre .fields ∙ fields-are sh; goals = long .goals; frames = long .frames; picks = long
+        .picks; widths = long .widths; begun = refl }
 
 pub report-requires : need.report-requires
 report-requires g c κs =

@@ -35,7 +35,8 @@ index-sheet-g g c =
     let s = c .args .store .now in
     let w = st .width s in
     let S = st .current s in
-    let z = way guide (c .args .picks .now) (c .args .widths .now) (c .args .at .now) (waits (c .args .source .now)) in
+    let z = way guide (c .args .picks .now) (c .args .widths .now) (c .args .at .now)
+        (waits (c .args .source .now)) in
     let sh = c .args .sheet .now in
     let wide = c .pre .fields in
     let gs = c .args .goals .now in
@@ -52,7 +53,8 @@ index-sheet-g g c =
     let b = top sh w wide gs fs n f u fit more .target in
     let e = above sh w wide gs fs n f u fit more in
     let below = rest sh w wide gs fs n f u fit more in
-    omega (arith, sh .long, sh .«lines_kept» (stands sh w wide gs fs n f u fit more .line) (stands sh w wide gs fs n f u fit more .within .0), stands sh w wide gs fs n f u fit more .within .2)
+    omega (arith, sh .long, sh .«lines_kept» (stands sh w wide gs fs n f u fit more .line)
+        (stands sh w wide gs fs n f u fit more .within .0), stands sh w wide gs fs n f u fit more .within .2)
 
 pub returns-in-Not : need.returns-in-Not
 returns-in-Not g c =
@@ -62,7 +64,8 @@ returns-in-Not g c =
     let s = c .args .store .now in
     let w = st .width s in
     let S = st .current s in
-    let z = way guide (c .args .picks .now) (c .args .widths .now) (c .args .at .now) (waits (c .args .source .now)) in
+    let z = way guide (c .args .picks .now) (c .args .widths .now) (c .args .at .now)
+        (waits (c .args .source .now)) in
     let sh = c .args .sheet .now in
     let wide = c .pre .fields in
     let gs = c .args .goals .now in
@@ -84,7 +87,10 @@ returns-in-Not g c =
     let ok = node-okay sh w wide gs fs n f u fit more node (c .in-Not .is) in
     record {
       same = (refl, refl, λ m h. h);
-      left = one-put sh w wide gs fs n f u fit more S S z z (c .pre .some) (whole tree node) b is (c .in-Not .f) (not b) (c .push .last .goals) (c .push .last .d) ok (omega arith) (omega arith) (c .push .ensures .goals) (c .push .ensures .depth) (negate-led rules e b below u S C x w z (tree (c .in-Not .f)));
+      left = one-put sh w wide gs fs n f u fit more S S z z (c .pre .some) (whole tree node) b is
+          (c .in-Not .f) (not b) (c .push .last .goals) (c .push .last .d) ok (omega arith) (omega arith)
+          (c .push .ensures .goals) (c .push .ensures .depth)
+          (negate-led rules e b below u S C x w z (tree (c .in-Not .f)));
     }
 
 pub compare-requires : need.compare-requires
@@ -95,7 +101,8 @@ compare-requires g c κs =
     let s = c .args .store .now in
     let w = st .width s in
     let S = st .current s in
-    let z = way guide (c .args .picks .now) (c .args .widths .now) (c .args .at .now) (waits (c .args .source .now)) in
+    let z = way guide (c .args .picks .now) (c .args .widths .now) (c .args .at .now)
+        (waits (c .args .source .now)) in
     let sh = c .args .sheet .now in
     let wide = c .pre .fields in
     let gs = c .args .goals .now in
@@ -120,7 +127,8 @@ compare-requires g c κs =
       left = ok .0;
       right = ok .1;
       some = c .pre .some;
-      room = compare-fits rules e b below u S C x w z (term-of (c .in-Compare .l)) (c .in-Compare .sign) (term-of (c .in-Compare .r)) (subst (λ q. Fits z (Solving rules q u S)) is (c .pre .room));
+      room = compare-fits rules e b below u S C x w z (term-of (c .in-Compare .l)) (c .in-Compare .sign)
+          (term-of (c .in-Compare .r)) (subst (λ q. Fits z (Solving rules q u S)) is (c .pre .room));
     }
 
 pub returns-in-None : need.returns-in-None
@@ -131,7 +139,8 @@ returns-in-None g c =
     let s = c .args .store .now in
     let w = st .width s in
     let S = st .current s in
-    let z = way guide (c .args .picks .now) (c .args .widths .now) (c .args .at .now) (waits (c .args .source .now)) in
+    let z = way guide (c .args .picks .now) (c .args .widths .now) (c .args .at .now)
+        (waits (c .args .source .now)) in
     let sh = c .args .sheet .now in
     let wide = c .pre .fields in
     let gs = c .args .goals .now in
@@ -152,10 +161,13 @@ returns-in-None g c =
     let is = opened sh w wide gs fs n f u fit more node (c .in-Compare .is) in
     let ok = node-okay sh w wide gs fs n f u fit more node (c .in-Compare .is) in
     let P = st .current (c .compare .last .store) in
-    let y = way guide (c .compare .last .picks) (c .compare .last .widths) (c .compare .last .at) (waits (c .compare .last .source)) in
+    let y = way guide (c .compare .last .picks) (c .compare .last .widths) (c .compare .last .at)
+        (waits (c .compare .last .source)) in
     record {
       same = c .compare .ensures .same;
-      left = subst (λ q. Halt z (Solving rules q u S) y) (sym is) (compare-halt rules e b below u S C x w z (term-of (c .in-Compare .l)) (c .in-Compare .sign) (term-of (c .in-Compare .r)) P y (c .in-None .ensures tt .left));
+      left = subst (λ q. Halt z (Solving rules q u S) y) (sym is)
+          (compare-halt rules e b below u S C x w z (term-of (c .in-Compare .l)) (c .in-Compare .sign)
+          (term-of (c .in-Compare .r)) P y (c .in-None .ensures tt .left));
     }
 
 pub returns-then-live : need.returns-then-live
@@ -166,7 +178,8 @@ returns-then-live g c =
     let s = c .args .store .now in
     let w = st .width s in
     let S = st .current s in
-    let z = way guide (c .args .picks .now) (c .args .widths .now) (c .args .at .now) (waits (c .args .source .now)) in
+    let z = way guide (c .args .picks .now) (c .args .widths .now) (c .args .at .now)
+        (waits (c .args .source .now)) in
     let sh = c .args .sheet .now in
     let wide = c .pre .fields in
     let gs = c .args .goals .now in
@@ -187,11 +200,15 @@ returns-then-live g c =
     let is = opened sh w wide gs fs n f u fit more node (c .in-Compare .is) in
     let ok = node-okay sh w wide gs fs n f u fit more node (c .in-Compare .is) in
     let P = st .current (c .compare .last .store) in
-    let y = way guide (c .compare .last .picks) (c .compare .last .widths) (c .compare .last .at) (waits (c .compare .last .source)) in
-    let k = subst (λ q. Compared w e (term-of (c .in-Compare .l)) (c .in-Compare .sign) (term-of (c .in-Compare .r)) b S z (Some q) P y) (c .if-live .taken) (c .in-Some .ensures tt .left) in
+    let y = way guide (c .compare .last .picks) (c .compare .last .widths) (c .compare .last .at)
+        (waits (c .compare .last .source)) in
+    let k = subst (λ q. Compared w e (term-of (c .in-Compare .l)) (c .in-Compare .sign)
+        (term-of (c .in-Compare .r)) b S z (Some q) P y) (c .if-live .taken) (c .in-Some .ensures tt .left) in
     record {
       same = c .compare .ensures .same;
-      left = none-put sh w wide gs fs n f u fit more S P z y (k .alive) (whole tree node) b is (compare-led rules e b below u S C x w z (term-of (c .in-Compare .l)) (c .in-Compare .sign) (term-of (c .in-Compare .r)) P y k) (omega arith);
+      left = none-put sh w wide gs fs n f u fit more S P z y (k .alive) (whole tree node) b is
+          (compare-led rules e b below u S C x w z (term-of (c .in-Compare .l)) (c .in-Compare .sign)
+          (term-of (c .in-Compare .r)) P y k) (omega arith);
     }
 
 pub returns-else-live : need.returns-else-live
@@ -202,7 +219,8 @@ returns-else-live g c =
     let s = c .args .store .now in
     let w = st .width s in
     let S = st .current s in
-    let z = way guide (c .args .picks .now) (c .args .widths .now) (c .args .at .now) (waits (c .args .source .now)) in
+    let z = way guide (c .args .picks .now) (c .args .widths .now) (c .args .at .now)
+        (waits (c .args .source .now)) in
     let sh = c .args .sheet .now in
     let wide = c .pre .fields in
     let gs = c .args .goals .now in
@@ -223,11 +241,15 @@ returns-else-live g c =
     let is = opened sh w wide gs fs n f u fit more node (c .in-Compare .is) in
     let ok = node-okay sh w wide gs fs n f u fit more node (c .in-Compare .is) in
     let P = st .current (c .compare .last .store) in
-    let y = way guide (c .compare .last .picks) (c .compare .last .widths) (c .compare .last .at) (waits (c .compare .last .source)) in
-    let k = subst (λ q. Compared w e (term-of (c .in-Compare .l)) (c .in-Compare .sign) (term-of (c .in-Compare .r)) b S z (Some q) P y) (c .if-live .left) (c .in-Some .ensures tt .left) in
+    let y = way guide (c .compare .last .picks) (c .compare .last .widths) (c .compare .last .at)
+        (waits (c .compare .last .source)) in
+    let k = subst (λ q. Compared w e (term-of (c .in-Compare .l)) (c .in-Compare .sign)
+        (term-of (c .in-Compare .r)) b S z (Some q) P y) (c .if-live .left) (c .in-Some .ensures tt .left) in
     record {
       same = c .compare .ensures .same;
-      left = subst (λ q. Took z (λ v. Solves rules q (live u S) v dead) y) (sym is) (compare-dead rules e b below u S C x w z (term-of (c .in-Compare .l)) (c .in-Compare .sign) (term-of (c .in-Compare .r)) P y k);
+      left = subst (λ q. Took z (λ v. Solves rules q (live u S) v dead) y) (sym is)
+          (compare-dead rules e b below u S C x w z (term-of (c .in-Compare .l)) (c .in-Compare .sign)
+          (term-of (c .in-Compare .r)) P y k);
     }
 
 pub argument-requires : need.argument-requires
@@ -238,7 +260,8 @@ argument-requires g c κs =
     let s = c .args .store .now in
     let w = st .width s in
     let S = st .current s in
-    let z = way guide (c .args .picks .now) (c .args .widths .now) (c .args .at .now) (waits (c .args .source .now)) in
+    let z = way guide (c .args .picks .now) (c .args .widths .now) (c .args .at .now)
+        (waits (c .args .source .now)) in
     let sh = c .args .sheet .now in
     let wide = c .pre .fields in
     let gs = c .args .goals .now in
@@ -258,7 +281,8 @@ argument-requires g c κs =
     let node = Pick (c .in-Pick .x) (c .in-Pick .f) in
     let is = opened sh w wide gs fs n f u fit more node (c .in-Pick .is) in
     let ok = node-okay sh w wide gs fs n f u fit more node (c .in-Pick .is) in
-    record { few = frame-okay sh w wide gs fs n f u fit more .few; known = known-in w (framed sh w wide gs fs n f u fit more .count) (c .in-Pick .x) (ok .0) }
+    record { few = frame-okay sh w wide gs fs n f u fit more .few; known = known-in w
+        (framed sh w wide gs fs n f u fit more .count) (c .in-Pick .x) (ok .0) }
 
 pub settle-requires : need.settle-requires
 settle-requires g c κs =
@@ -268,7 +292,8 @@ settle-requires g c κs =
     let s = c .args .store .now in
     let w = st .width s in
     let S = st .current s in
-    let z = way guide (c .args .picks .now) (c .args .widths .now) (c .args .at .now) (waits (c .args .source .now)) in
+    let z = way guide (c .args .picks .now) (c .args .widths .now) (c .args .at .now)
+        (waits (c .args .source .now)) in
     let sh = c .args .sheet .now in
     let wide = c .pre .fields in
     let gs = c .args .goals .now in
@@ -292,7 +317,8 @@ settle-requires g c κs =
     record {
       okay = a .okay w (frame-okay sh w wide gs fs n f u fit more) (ok .0);
       some = c .pre .some;
-      room = pick-fits rules e b below u S C x w z (name-of (c .in-Pick .x)) (tree (c .in-Pick .f)) (c .argument .result) (a .is) (subst (λ q. Fits z (Solving rules q u S)) is (c .pre .room));
+      room = pick-fits rules e b below u S C x w z (name-of (c .in-Pick .x)) (tree (c .in-Pick .f))
+          (c .argument .result) (a .is) (subst (λ q. Fits z (Solving rules q u S)) is (c .pre .room));
     }
 
 pub returns-in-None-settle : need.returns-in-None-settle
@@ -303,7 +329,8 @@ returns-in-None-settle g c =
     let s = c .args .store .now in
     let w = st .width s in
     let S = st .current s in
-    let z = way guide (c .args .picks .now) (c .args .widths .now) (c .args .at .now) (waits (c .args .source .now)) in
+    let z = way guide (c .args .picks .now) (c .args .widths .now) (c .args .at .now)
+        (waits (c .args .source .now)) in
     let sh = c .args .sheet .now in
     let wide = c .pre .fields in
     let gs = c .args .goals .now in
@@ -324,11 +351,14 @@ returns-in-None-settle g c =
     let is = opened sh w wide gs fs n f u fit more node (c .in-Pick .is) in
     let ok = node-okay sh w wide gs fs n f u fit more node (c .in-Pick .is) in
     let P = st .current (c .settle .last .store) in
-    let y = way guide (c .settle .last .picks) (c .settle .last .widths) (c .settle .last .at) (waits (c .settle .last .source)) in
+    let y = way guide (c .settle .last .picks) (c .settle .last .widths) (c .settle .last .at)
+        (waits (c .settle .last .source)) in
     let a = c .argument .ensures in
     record {
       same = c .settle .ensures .same;
-      left = subst (λ q. Halt z (Solving rules q u S) y) (sym is) (pick-halt rules e b below u S C x w z (name-of (c .in-Pick .x)) (tree (c .in-Pick .f)) (c .argument .result) (a .is) P y (c .in-None-settle .ensures tt .left));
+      left = subst (λ q. Halt z (Solving rules q u S) y) (sym is)
+          (pick-halt rules e b below u S C x w z (name-of (c .in-Pick .x)) (tree (c .in-Pick .f))
+          (c .argument .result) (a .is) P y (c .in-None-settle .ensures tt .left));
     }
 
 pub returns-in-Some-settle : need.returns-in-Some-settle
@@ -339,7 +369,8 @@ returns-in-Some-settle g c =
     let s = c .args .store .now in
     let w = st .width s in
     let S = st .current s in
-    let z = way guide (c .args .picks .now) (c .args .widths .now) (c .args .at .now) (waits (c .args .source .now)) in
+    let z = way guide (c .args .picks .now) (c .args .widths .now) (c .args .at .now)
+        (waits (c .args .source .now)) in
     let sh = c .args .sheet .now in
     let wide = c .pre .fields in
     let gs = c .args .goals .now in
@@ -360,12 +391,17 @@ returns-in-Some-settle g c =
     let is = opened sh w wide gs fs n f u fit more node (c .in-Pick .is) in
     let ok = node-okay sh w wide gs fs n f u fit more node (c .in-Pick .is) in
     let P = st .current (c .settle .last .store) in
-    let y = way guide (c .settle .last .picks) (c .settle .last .widths) (c .settle .last .at) (waits (c .settle .last .source)) in
+    let y = way guide (c .settle .last .picks) (c .settle .last .widths) (c .settle .last .at)
+        (waits (c .settle .last .source)) in
     let a = c .argument .ensures in
     let k = c .in-Some-settle .ensures tt .left in
     record {
       same = c .settle .ensures .same;
-      left = one-put sh w wide gs fs n f u fit more S P z y (k .alive) (whole tree node) b is (c .in-Pick .f) b (c .push-in-Some-settle .last .goals) (c .push-in-Some-settle .last .d) (ok .1) (omega arith) (omega arith) (c .push-in-Some-settle .ensures .goals) (c .push-in-Some-settle .ensures .depth) (pick-led rules e b below u S C x w z (name-of (c .in-Pick .x)) (tree (c .in-Pick .f)) (c .argument .result) (a .is) P y _ k);
+      left = one-put sh w wide gs fs n f u fit more S P z y (k .alive) (whole tree node) b is (c .in-Pick .f)
+          b (c .push-in-Some-settle .last .goals) (c .push-in-Some-settle .last .d) (ok .1) (omega arith)
+          (omega arith) (c .push-in-Some-settle .ensures .goals) (c .push-in-Some-settle .ensures .depth)
+          (pick-led rules e b below u S C x w z (name-of (c .in-Pick .x)) (tree (c .in-Pick .f))
+          (c .argument .result) (a .is) P y _ k);
     }
 
 pub pass-requires : need.pass-requires
@@ -376,7 +412,8 @@ pass-requires g c κs =
     let s = c .args .store .now in
     let w = st .width s in
     let S = st .current s in
-    let z = way guide (c .args .picks .now) (c .args .widths .now) (c .args .at .now) (waits (c .args .source .now)) in
+    let z = way guide (c .args .picks .now) (c .args .widths .now) (c .args .at .now)
+        (waits (c .args .source .now)) in
     let sh = c .args .sheet .now in
     let wide = c .pre .fields in
     let gs = c .args .goals .now in
@@ -400,7 +437,8 @@ pass-requires g c κs =
       frame = frame-okay sh w wide gs fs n f u fit more;
       okay = ok .2;
       some = c .pre .some;
-      room = call-fits rules e b below S C x w z (c .in-Call .rule) (terms (c .in-Call .ts) (c .in-Call .n)) u (subst (λ q. Fits z (Solving rules q u S)) is (c .pre .room));
+      room = call-fits rules e b below S C x w z (c .in-Call .rule) (terms (c .in-Call .ts) (c .in-Call .n)) u
+          (subst (λ q. Fits z (Solving rules q u S)) is (c .pre .room));
     }
 
 pub returns-in-None-pass : need.returns-in-None-pass
@@ -411,7 +449,8 @@ returns-in-None-pass g c =
     let s = c .args .store .now in
     let w = st .width s in
     let S = st .current s in
-    let z = way guide (c .args .picks .now) (c .args .widths .now) (c .args .at .now) (waits (c .args .source .now)) in
+    let z = way guide (c .args .picks .now) (c .args .widths .now) (c .args .at .now)
+        (waits (c .args .source .now)) in
     let sh = c .args .sheet .now in
     let wide = c .pre .fields in
     let gs = c .args .goals .now in
@@ -432,10 +471,13 @@ returns-in-None-pass g c =
     let is = opened sh w wide gs fs n f u fit more node (c .in-Call .is) in
     let ok = node-okay sh w wide gs fs n f u fit more node (c .in-Call .is) in
     let P = st .current (c .pass .last .store) in
-    let y = way guide (c .pass .last .picks) (c .pass .last .widths) (c .pass .last .at) (waits (c .pass .last .source)) in
+    let y = way guide (c .pass .last .picks) (c .pass .last .widths) (c .pass .last .at)
+        (waits (c .pass .last .source)) in
     record {
       same = c .pass .ensures .same;
-      left = subst (λ q. Halt z (Solving rules q u S) y) (sym is) (call-halt rules e b below S C x w z (c .in-Call .rule) (terms (c .in-Call .ts) (c .in-Call .n)) u (c .in-Call .n) P y (c .in-None-pass .ensures tt .left));
+      left = subst (λ q. Halt z (Solving rules q u S) y) (sym is)
+          (call-halt rules e b below S C x w z (c .in-Call .rule) (terms (c .in-Call .ts) (c .in-Call .n)) u
+          (c .in-Call .n) P y (c .in-None-pass .ensures tt .left));
     }
 
 pub index-sheet-rule : need.index-sheet-rule
@@ -446,7 +488,8 @@ index-sheet-rule g c =
     let s = c .args .store .now in
     let w = st .width s in
     let S = st .current s in
-    let z = way guide (c .args .picks .now) (c .args .widths .now) (c .args .at .now) (waits (c .args .source .now)) in
+    let z = way guide (c .args .picks .now) (c .args .widths .now) (c .args .at .now)
+        (waits (c .args .source .now)) in
     let sh = c .args .sheet .now in
     let wide = c .pre .fields in
     let gs = c .args .goals .now in
@@ -476,7 +519,8 @@ ask-requires g c κs =
     let s = c .args .store .now in
     let w = st .width s in
     let S = st .current s in
-    let z = way guide (c .args .picks .now) (c .args .widths .now) (c .args .at .now) (waits (c .args .source .now)) in
+    let z = way guide (c .args .picks .now) (c .args .widths .now) (c .args .at .now)
+        (waits (c .args .source .now)) in
     let sh = c .args .sheet .now in
     let wide = c .pre .fields in
     let gs = c .args .goals .now in
@@ -498,7 +542,9 @@ ask-requires g c κs =
     let ok = node-okay sh w wide gs fs n f u fit more node (c .in-Join .is) in
     record {
       usable = omega (arith, ok .0);
-      room = λ h. join-fits rules e b below u S C x w z (c .in-Join .word) (c .in-Join .v) (c .in-Join .w) (tree (c .in-Join .l)) (tree (c .in-Join .r)) h (subst (λ q. Fits z (Solving rules q u S)) is (c .pre .room));
+      room = λ h. join-fits rules e b below u S C x w z (c .in-Join .word) (c .in-Join .v) (c .in-Join .w)
+          (tree (c .in-Join .l)) (tree (c .in-Join .r)) h
+          (subst (λ q. Fits z (Solving rules q u S)) is (c .pre .room));
     }
 
 pub returns-in-rest : need.returns-in-rest
@@ -509,7 +555,8 @@ returns-in-rest g c =
     let s = c .args .store .now in
     let w = st .width s in
     let S = st .current s in
-    let z = way guide (c .args .picks .now) (c .args .widths .now) (c .args .at .now) (waits (c .args .source .now)) in
+    let z = way guide (c .args .picks .now) (c .args .widths .now) (c .args .at .now)
+        (waits (c .args .source .now)) in
     let sh = c .args .sheet .now in
     let wide = c .pre .fields in
     let gs = c .args .goals .now in
@@ -529,11 +576,14 @@ returns-in-rest g c =
     let node = Join (c .in-Join .word) (c .in-Join .v) (c .in-Join .w) (c .in-Join .l) (c .in-Join .r) in
     let is = opened sh w wide gs fs n f u fit more node (c .in-Join .is) in
     let ok = node-okay sh w wide gs fs n f u fit more node (c .in-Join .is) in
-    let y = way guide (c .ask .last .picks) (c .ask .last .widths) (c .ask .last .at) (waits (c .ask .last .source)) in
+    let y = way guide (c .ask .last .picks) (c .ask .last .widths) (c .ask .last .at)
+        (waits (c .ask .last .source)) in
     let h = c .in-rest .ensures tt in
     record {
       same = (refl, refl, λ m h. h);
-      left = subst (λ q. Halt z (Solving rules q u S) y) (sym is) (join-halt rules e b below u S C x w z (c .in-Join .word) (c .in-Join .v) (c .in-Join .w) (tree (c .in-Join .l)) (tree (c .in-Join .r)) (h .0) y (h .1));
+      left = subst (λ q. Halt z (Solving rules q u S) y) (sym is)
+          (join-halt rules e b below u S C x w z (c .in-Join .word) (c .in-Join .v) (c .in-Join .w)
+          (tree (c .in-Join .l)) (tree (c .in-Join .r)) (h .0) y (h .1));
     }
 
 pub returns-in-Left : need.returns-in-Left
@@ -544,7 +594,8 @@ returns-in-Left g c =
     let s = c .args .store .now in
     let w = st .width s in
     let S = st .current s in
-    let z = way guide (c .args .picks .now) (c .args .widths .now) (c .args .at .now) (waits (c .args .source .now)) in
+    let z = way guide (c .args .picks .now) (c .args .widths .now) (c .args .at .now)
+        (waits (c .args .source .now)) in
     let sh = c .args .sheet .now in
     let wide = c .pre .fields in
     let gs = c .args .goals .now in
@@ -564,11 +615,17 @@ returns-in-Left g c =
     let node = Join (c .in-Join .word) (c .in-Join .v) (c .in-Join .w) (c .in-Join .l) (c .in-Join .r) in
     let is = opened sh w wide gs fs n f u fit more node (c .in-Join .is) in
     let ok = node-okay sh w wide gs fs n f u fit more node (c .in-Join .is) in
-    let y = way guide (c .ask .last .picks) (c .ask .last .widths) (c .ask .last .at) (waits (c .ask .last .source)) in
-    let h = subst (λ q. Sided (c .in-Join .word) (c .in-Join .v) (c .in-Join .w) b z (Some q) y) (c .in-Left .is) (c .in-Some-ask .ensures tt) in
+    let y = way guide (c .ask .last .picks) (c .ask .last .widths) (c .ask .last .at)
+        (waits (c .ask .last .source)) in
+    let h = subst (λ q. Sided (c .in-Join .word) (c .in-Join .v) (c .in-Join .w) b z (Some q) y)
+        (c .in-Left .is) (c .in-Some-ask .ensures tt) in
     record {
       same = (refl, refl, λ m h. h);
-      left = one-put sh w wide gs fs n f u fit more S S z y (c .pre .some) (whole tree node) b is (c .in-Join .l) b (c .push-in-Left .last .goals) (c .push-in-Left .last .d) (ok .1) (omega arith) (omega arith) (c .push-in-Left .ensures .goals) (c .push-in-Left .ensures .depth) (left-led rules e b below u S C x w z (c .in-Join .word) (c .in-Join .v) (c .in-Join .w) (tree (c .in-Join .l)) (tree (c .in-Join .r)) (h .0) y (h .1));
+      left = one-put sh w wide gs fs n f u fit more S S z y (c .pre .some) (whole tree node) b is
+          (c .in-Join .l) b (c .push-in-Left .last .goals) (c .push-in-Left .last .d) (ok .1) (omega arith)
+          (omega arith) (c .push-in-Left .ensures .goals) (c .push-in-Left .ensures .depth)
+          (left-led rules e b below u S C x w z (c .in-Join .word) (c .in-Join .v) (c .in-Join .w)
+          (tree (c .in-Join .l)) (tree (c .in-Join .r)) (h .0) y (h .1));
     }
 
 pub push-requires-in-Both-2 : need.push-requires-in-Both-2
@@ -579,7 +636,8 @@ push-requires-in-Both-2 g c κs =
     let s = c .args .store .now in
     let w = st .width s in
     let S = st .current s in
-    let z = way guide (c .args .picks .now) (c .args .widths .now) (c .args .at .now) (waits (c .args .source .now)) in
+    let z = way guide (c .args .picks .now) (c .args .widths .now) (c .args .at .now)
+        (waits (c .args .source .now)) in
     let sh = c .args .sheet .now in
     let wide = c .pre .fields in
     let gs = c .args .goals .now in
@@ -599,7 +657,8 @@ push-requires-in-Both-2 g c κs =
     let node = Join (c .in-Join .word) (c .in-Join .v) (c .in-Join .w) (c .in-Join .l) (c .in-Join .r) in
     let is = opened sh w wide gs fs n f u fit more node (c .in-Join .is) in
     let ok = node-okay sh w wide gs fs n f u fit more node (c .in-Join .is) in
-    let room = two-room sh w wide gs fs n f u fit more S S z z (c .pre .some) (whole tree node) b is (omega arith) in
+    let room = two-room sh w wide gs fs n f u fit more S S z z (c .pre .some) (whole tree node) b is
+        (omega arith) in
     let eg = ap length (c .push-in-Both .ensures .goals) ∙ length-set gs (n - 1) _ in
     let ed = ap (λ q. q .goals) (c .push-in-Both .ensures .depth) in
     omega arith
@@ -612,7 +671,8 @@ returns-in-Both g c =
     let s = c .args .store .now in
     let w = st .width s in
     let S = st .current s in
-    let z = way guide (c .args .picks .now) (c .args .widths .now) (c .args .at .now) (waits (c .args .source .now)) in
+    let z = way guide (c .args .picks .now) (c .args .widths .now) (c .args .at .now)
+        (waits (c .args .source .now)) in
     let sh = c .args .sheet .now in
     let wide = c .pre .fields in
     let gs = c .args .goals .now in
@@ -632,12 +692,20 @@ returns-in-Both g c =
     let node = Join (c .in-Join .word) (c .in-Join .v) (c .in-Join .w) (c .in-Join .l) (c .in-Join .r) in
     let is = opened sh w wide gs fs n f u fit more node (c .in-Join .is) in
     let ok = node-okay sh w wide gs fs n f u fit more node (c .in-Join .is) in
-    let y = way guide (c .ask .last .picks) (c .ask .last .widths) (c .ask .last .at) (waits (c .ask .last .source)) in
+    let y = way guide (c .ask .last .picks) (c .ask .last .widths) (c .ask .last .at)
+        (waits (c .ask .last .source)) in
     let t = c .in-Both .target in
-    let h = subst (λ q. Sided (c .in-Join .word) (c .in-Join .v) (c .in-Join .w) b z (Some q) y) (c .in-Both .is) (c .in-Some-ask .ensures tt) in
+    let h = subst (λ q. Sided (c .in-Join .word) (c .in-Join .v) (c .in-Join .w) b z (Some q) y)
+        (c .in-Both .is) (c .in-Some-ask .ensures tt) in
     record {
       same = (refl, refl, λ m h. h);
-      left = two-put sh w wide gs fs n f u fit more S S z y (c .pre .some) (whole tree node) b is (c .in-Join .l) (c .in-Join .r) t b (c .push-in-Both .last .goals) (c .push-in-Both-2 .last .goals) (c .push-in-Both .last .d) (c .push-in-Both-2 .last .d) (ok .1) (ok .2) (omega arith) (omega arith) (c .push-in-Both .ensures .goals) (c .push-in-Both .ensures .depth) (c .push-in-Both-2 .ensures .goals) (c .push-in-Both-2 .ensures .depth) (sides-led rules e b below u S C x w z (c .in-Join .word) (c .in-Join .v) (c .in-Join .w) (tree (c .in-Join .l)) (tree (c .in-Join .r)) t y h);
+      left = two-put sh w wide gs fs n f u fit more S S z y (c .pre .some) (whole tree node) b is
+          (c .in-Join .l) (c .in-Join .r) t b (c .push-in-Both .last .goals) (c .push-in-Both-2 .last .goals)
+          (c .push-in-Both .last .d) (c .push-in-Both-2 .last .d) (ok .1) (ok .2) (omega arith) (omega arith)
+          (c .push-in-Both .ensures .goals) (c .push-in-Both .ensures .depth)
+          (c .push-in-Both-2 .ensures .goals) (c .push-in-Both-2 .ensures .depth)
+          (sides-led rules e b below u S C x w z (c .in-Join .word) (c .in-Join .v) (c .in-Join .w)
+          (tree (c .in-Join .l)) (tree (c .in-Join .r)) t y h);
     }
 
 pub enter-requires : need.enter-requires
@@ -648,7 +716,8 @@ enter-requires g c κs =
     let s = c .args .store .now in
     let w = st .width s in
     let S = st .current s in
-    let z = way guide (c .args .picks .now) (c .args .widths .now) (c .args .at .now) (waits (c .args .source .now)) in
+    let z = way guide (c .args .picks .now) (c .args .widths .now) (c .args .at .now)
+        (waits (c .args .source .now)) in
     let sh = c .args .sheet .now in
     let wide = c .pre .fields in
     let gs = c .args .goals .now in
@@ -669,7 +738,8 @@ enter-requires g c κs =
     let is = opened sh w wide gs fs n f u fit more node (c .in-Call .is) in
     let ok = node-okay sh w wide gs fs n f u fit more node (c .in-Call .is) in
     let P = st .current (c .pass .last .store) in
-    let y = way guide (c .pass .last .picks) (c .pass .last .widths) (c .pass .last .at) (waits (c .pass .last .source)) in
+    let y = way guide (c .pass .last .picks) (c .pass .last .widths) (c .pass .last .at)
+        (waits (c .pass .last .source)) in
     record { goals = omega (arith, fit .0 .hold, more); frames = fit .0 .frames-hold; few = fit .0 .few }
 
 pub returns-in-Some-pass : need.returns-in-Some-pass
@@ -680,7 +750,8 @@ returns-in-Some-pass g c =
     let s = c .args .store .now in
     let w = st .width s in
     let S = st .current s in
-    let z = way guide (c .args .picks .now) (c .args .widths .now) (c .args .at .now) (waits (c .args .source .now)) in
+    let z = way guide (c .args .picks .now) (c .args .widths .now) (c .args .at .now)
+        (waits (c .args .source .now)) in
     let sh = c .args .sheet .now in
     let wide = c .pre .fields in
     let gs = c .args .goals .now in
@@ -701,17 +772,26 @@ returns-in-Some-pass g c =
     let is = opened sh w wide gs fs n f u fit more node (c .in-Call .is) in
     let ok = node-okay sh w wide gs fs n f u fit more node (c .in-Call .is) in
     let P = st .current (c .pass .last .store) in
-    let y = way guide (c .pass .last .picks) (c .pass .last .widths) (c .pass .last .at) (waits (c .pass .last .source)) in
+    let y = way guide (c .pass .last .picks) (c .pass .last .widths) (c .pass .last .at)
+        (waits (c .pass .last .source)) in
     let k = c .in-Some-pass .ensures tt .left in
     let r = c .in-Call .rule in
     let a = c .in-Some-pass .f in
     let F = tree (line-at (sh .lines) r .body) in
     let q = spot (c .enter .last .goals) (c .enter .last .frames) (c .enter .last .d) in
-    let moved : Entered a (line-at (sh .lines) r .body) b (spot gs fs (depth (n - 1) f u)) Moved q → Turned sh (pending sh gs fs n) u S z Moved q P y =
-    λ m. call-put sh w wide gs fs n f u fit more S P z y (k .alive) (whole tree node) b is r b a (q .goals) (q .frames) (q .depth) (m .0) (ok .0) refl refl (k .okay) (k .count ∙ ok .1) (m .1) (m .2) (m .3) (call-led rules e b below S C x w z (c .in-Call .rule) (terms (c .in-Call .ts) (c .in-Call .n)) u (c .in-Call .n) P y a F (m .0) (body-is sh r (ok .0)) k) in
-    let out : Entered a (line-at (sh .lines) r .body) b (spot gs fs (depth (n - 1) f u)) Spent q → Turned sh (pending sh gs fs n) u S z Spent q P y =
-    λ m. subst (λ q. Took z (λ v. Solves rules q (live u S) v spent) y) (sym is) (call-spent rules e b below S C x w z (c .in-Call .rule) (terms (c .in-Call .ts) (c .in-Call .n)) u (c .in-Call .n) P y a m k) in
+    let moved : Entered a (line-at (sh .lines) r .body) b (spot gs fs (depth (n - 1) f u)) Moved q → Turned sh
+        (pending sh gs fs n) u S z Moved q P y =
+    λ m. call-put sh w wide gs fs n f u fit more S P z y (k .alive) (whole tree node) b is r b a (q .goals)
+        (q .frames) (q .depth) (m .0) (ok .0) refl refl (k .okay) (k .count ∙ ok .1) (m .1) (m .2) (m .3)
+        (call-led rules e b below S C x w z (c .in-Call .rule) (terms (c .in-Call .ts) (c .in-Call .n)) u
+        (c .in-Call .n) P y a F (m .0) (body-is sh r (ok .0)) k) in
+    let out : Entered a (line-at (sh .lines) r .body) b (spot gs fs (depth (n - 1) f u)) Spent q → Turned sh
+        (pending sh gs fs n) u S z Spent q P y =
+    λ m. subst (λ q. Took z (λ v. Solves rules q (live u S) v spent) y) (sym is)
+        (call-spent rules e b below S C x w z (c .in-Call .rule) (terms (c .in-Call .ts) (c .in-Call .n)) u
+        (c .in-Call .n) P y a m k) in
     record {
       same = c .pass .ensures .same;
-      left = entered sh gs fs n u S P z y q a (line-at (sh .lines) r .body) b (spot gs fs (depth (n - 1) f u)) moved out (c .enter .result) (c .enter .ensures);
+      left = entered sh gs fs n u S P z y q a (line-at (sh .lines) r .body) b (spot gs fs (depth (n - 1) f u))
+          moved out (c .enter .result) (c .enter .ensures);
     }
