@@ -1,4 +1,6 @@
-// Lists the marks of a sheet from standard input, over every mark, in the order of the walk.
+// Lists the marks of a sheet from standard input, in the order of the walk over every mark.
+use run::goal::Frame;
+use run::goal::Goal;
 use sheet::table::Sheet;
 use std::alloc::Global;
 use std::io;
@@ -6,21 +8,20 @@ use std::io::BufWriter;
 use std::io::Write;
 use store::open::OpenStore;
 use store::open_rows::OpenRows;
-use run::goal::Frame;
-use run::goal::Goal;
+use streams::put;
 use walk::answer::Answer;
 
 // One byte more than a text may have: enough to see that it is too long.
 const ENOUGH: usize = 32769;
 
-// The fuel of a listing, and the lists that it needs.
+// The fuel of a listing, and how long the lists are that it needs.
 const FUEL: u8 = 255;
 const ENTRIES: usize = 4104;
 const FRAMES: usize = 256;
 
 fn main(rt: LibcRuntime) -> io::Result<()> {
     let mut text = vec![in rt.alloc(); 0u8; ENOUGH]?;
-    let size = input::fill(&mut rt.stdin(), &mut text)?;
+    let size = streams::fill(&mut rt.stdin(), &mut text)?;
     let mut out = BufWriter::new(rt.stdout());
     let mut sheet = Sheet::blank();
     match names::read(&text[0..size], &mut sheet) {
@@ -33,7 +34,7 @@ fn main(rt: LibcRuntime) -> io::Result<()> {
     out.flush()
 }
 
-// Walks the sheet over the open store, and writes each mark's line as it comes, and the closing line.
+// Walks the sheet over the open store: each mark's line as it comes, and the closing line.
 fn list<W: Write>(heap: Global, sheet: &Sheet, out: &mut W) -> io::Result<()> {
     let mut store = OpenStore::new(sheet);
     let mut picks = vec![in heap; 0u16; ENTRIES]?;
@@ -41,33 +42,17 @@ fn list<W: Write>(heap: Global, sheet: &Sheet, out: &mut W) -> io::Result<()> {
     let mut goals = vec![in heap; Goal::NONE; ENTRIES]?;
     let mut frames = vec![in heap; Frame::NONE; FRAMES]?;
     let mut mark = [0u16; 8];
-    let mut line = [0u8; 64];
+    let mut line = [0u8; 128];
     let mut walk = walk::start(FUEL);
     for _ in 0..u64::MAX {
-        match walk.next(sheet, &mut store, &mut picks, &mut widths, &mut goals, &mut frames, &mut mark) {
+        let answer = walk.next(sheet, &mut store, &mut picks, &mut widths, &mut goals, &mut frames, &mut mark);
+        match answer {
             Ok(Answer::Mark) => put(lines::mark_line(&mark[0..sheet.field_count], &mut line), &line, out)?,
             Ok(Answer::Finished) => break,
             Ok(Answer::DeadEnd | Answer::Spent) => {}
-            Err(_) => return Err(io::Error::other("the walk was refused")),
+            Err(_) => return Err(io::Error::other("the walk is refused")),
         }
     }
-    let Ok(closed) = walk.close() else {
-        return Err(io::Error::other("the walk is not finished"));
-    };
-    let figures = closed.figures();
-    let mut line = [0u8; 128];
-    put(lines::closing_line(figures.issued, figures.dead, figures.spent, &mut line), &line, out)
-}
-
-// Writes a line that was made in a buffer.
-fn put<W: Write>(made: Result<usize, Refusal>, buffer: &[u8], out: &mut W) -> io::Result<()> {
-    match made {
-        Ok(length) => {
-            if length > buffer.len() {
-                return Err(io::Error::other("a line is too long"));
-            }
-            out.write_all(&buffer[0..length])
-        }
-        Err(_) => Err(io::Error::other("a line is too long")),
-    }
+    let tallies = walk.tally();
+    put(lines::closing_line(tallies.issued, tallies.dead, tallies.spent, &mut line), &line, out)
 }

@@ -1,5 +1,5 @@
 use Prim.Native.Nat.{_-_, _≤_}
-use Rattle.input.proofs.fill.Given as given
+use Rattle.streams.proofs.fill.Given as given
 
 abbrev pub Inv-loop-filled : given.InvT-loop-filled
 Inv-loop-filled g l = l .filled ≤ l .end
