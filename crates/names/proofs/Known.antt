@@ -6,7 +6,7 @@ use mathlib.Core.Logic.{_⊎_, inl, inr, ⊎-elim}
 use Prim.Native.Nat.{ℕ, zero, suc, _+_, _<_, _≤_}
 use native.Mathlib.Omega.{arith}
 use lib.Dec.{leb, ltb, eqb}
-use lib.ListN.{length, take}
+use lib.ListN.{length, getD, take}
 use Rattle.std.proofs.str.Laws.{order}
 use Rattle.std.proofs.shelf.Ways.{tells}
 use Rattle.std.proofs.shelf.Lists.{take-all}
@@ -41,6 +41,12 @@ use Rattle.names.proofs.Parts.{entries-size, size-some}
 
 both-true : (x y : Bool) → x ≡ true → y ≡ true → (x && y) ≡ true
 both-true x y e d = grind (arith, tells, e, d)
+
+and-left : (x y : Bool) → (x && y) ≡ true → x ≡ true
+and-left x y e = grind (arith, tells, e)
+
+and-right : (x y : Bool) → (x && y) ≡ true → y ≡ true
+and-right x y e = grind (arith, tells, e)
 
 module _ {fs : List Field} {ps : List Word} where
   means-known : {w : Word} {x : tree.Name} → Means fs ps w x → KnownName (length fs) (length ps) x
@@ -94,6 +100,24 @@ right-good absent s h = (omega arith, omega arith)
 right-good (given (num v p) (num w q)) s h = (h w q (that this), s .1)
 
 -- what the sheet knows of a line: how many fields there are, which rules may be called, its parameters and its first entry
+-- zeros past the known terms are known too
+padded-test :
+    (fields params : ℕ) (ys : List SheetTerm) (n : ℕ)
+    → known-terms fields params (take n ys) ≡ true
+    → ((j : ℕ) → n ≤ j → getD ys j (NumberTerm 0) ≡ NumberTerm 0)
+    → known-terms fields params ys ≡ true
+padded-test fields params [] n h z = refl
+padded-test fields params (y ∷ ys) zero h z =
+    both-true (known-term fields params y) (known-terms fields params ys)
+    (ap (known-term fields params) (z 0 (omega arith)))
+    (padded-test fields params ys zero refl (λ j k. z (suc j) (omega arith)))
+padded-test fields params (y ∷ ys) (suc n) h z =
+    both-true (known-term fields params y) (known-terms fields params ys)
+    (and-left (known-term fields params y) (known-terms fields params (take n ys)) h)
+    (padded-test fields params ys n (and-right (known-term fields params y) (known-terms fields params (take n ys)) h)
+     (λ j k. z (suc j) (omega arith)))
+
+
 module _ (text : List ℕ) (raw : List NodeEntry) (nodes : List Node) (fs : List Field) (rs : List Rule) (ps : List Word)
     (rules : ℕ) (lines : List Line) (l low high : ℕ)
     (params : table.line-at lines l .params ≡ length ps) (start : table.line-at lines l .start ≡ low)
@@ -119,9 +143,11 @@ module _ (text : List ℕ) (raw : List NodeEntry) (nodes : List Node) (fs : List
     → SmallTerms (map (term-of text) (take n ts)) → Good i m
   called-good i {n = n} {v = v} {ts = ts} _ (numbered-called {k = k} {xs = ys} {qs = qs} c len each four) small =
     let h = calls (word-of text v) k qs c in
-    let known : known-terms (length fs) (table.line-at lines l .params) (take n ys) ≡ true =
-      subst (λ z. known-terms (length fs) z (take n ys) ≡ true) (sym params) (terms-test (map (term-of text) (take n ts)) (take n ys) each small) in
-    grind (arith, tells, known, h, len, four)
+    let known : known-terms (length fs) (table.line-at lines l .params) ys ≡ true =
+      subst (λ z. known-terms (length fs) z ys ≡ true) (sym params)
+      (padded-test (length fs) (length ps) ys n (terms-test (map (term-of text) (take n ts)) (take n ys) each small) (four .1)) in
+    let long = four .0 in
+    grind (arith, tells, known, h, len, long)
 
   negated-good : (i : ℕ) {a : ℕ} (m : Node) → Numbered text fs rs ps (Negated a) m → low ≤ a → a < i → Good i m
   negated-good i _ numbered-negated from less = grind (arith, tells, start, from, less)

@@ -348,7 +348,6 @@ module _ (text : List ℕ) (t : Table) (nodes : List Node) (ranges : List Range)
     subst (λ z. FieldIs z y) (stands-same (field-of-line i lt) u) (subst (FieldIs (field-of text l)) value field-is)
 
   pub parts-resolve : Resolves (sheet fs rs (mark-line p f)) (tree-of-parts ranges (t .«field_count») lines (t .«rule_count») nodes)
-  unfolding tree-of-parts
   parts-resolve =
     let fields-fit : length fs ≡ length (map range-of (take (t .«field_count») ranges)) =
       sym (length-map (take (t .«field_count») ranges) range-of

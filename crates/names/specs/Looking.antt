@@ -26,6 +26,7 @@ use Rattle.grammar.specs.Syntax.{Word, num, Term, Weights, Formula, compared, c
 use Rattle.grammar.specs.Tables.{word-of, term-of, node-at, weights-of, field-of, params-of, place-of, formula-places, fields-places, rules-places, fields-of, rules-of, Entries, Rules, Holds, WellRead, Over, Rising}
 use Rattle.sheet.specs.declared.node.Name.{Name}
 use Rattle.sheet.specs.declared.node.Term.{Term as SheetTerm}
+use Rattle.sheet.specs.declared.node.Term.the-variants.{Number as SheetNumber}
 use Rattle.sheet.specs.declared.node.Node.{Node}
 use Rattle.sheet.specs.declared.node.Node.the-variants.{Compare, Call, Not, Pick, Join as JoinNode}
 use Rattle.sheet.specs.declared.node.Range.{Range}
@@ -120,6 +121,10 @@ pub data IsEntry (text : List ℕ) : NodeEntry → Formula → Type 0 where
       → weights-of v ≡ w
       → IsEntry text (Joined j v a b) (joined j w f g)
 
+-- four terms, of which those past the first n are 0
+abbrev pub Padded : (n : ℕ) → List SheetTerm → Type 0
+Padded n xs = (length xs ≡ 4) × ((j : ℕ) → n ≤ j → getD xs j (SheetNumber 0) ≡ SheetNumber 0)
+
 -- an entry with its names replaced by numbers: parts keep their numbers
 pub data Numbered (text : List ℕ) (fs : List Field) (rs : List Rule) (ps : List Word) : NodeEntry → Node → Type 0 where
   numbered-compared :
@@ -132,7 +137,7 @@ pub data Numbered (text : List ℕ) (fs : List Field) (rs : List Rule) (ps : Lis
       → Calls rs (word-of text v) k qs
       → length qs ≡ n
       → Each Term tree.Term (TermIs fs ps) (map (term-of text) (take n ts)) (map number-term (take n xs))
-      → length xs ≡ 4
+      → Padded n xs
       → Numbered text fs rs ps (Called v n ts) (Call k n xs)
   numbered-negated : {a : ℕ} → Numbered text fs rs ps (Negated a) (Not a)
   numbered-picked :
@@ -200,7 +205,7 @@ TermsSettled text t ws count xs n r =
     → Rising (map use-place (terms-uses (map (term-of text) (take n xs))))
     → Settles (UsesFault (fields-of text t) rs (names-of text ws count) (terms-uses (map (term-of text) (take n xs))))
     (λ ys. Each Term tree.Term (TermIs (fields-of text t) (names-of text ws count)) (map (term-of text) (take n xs))
-      (map number-term (take n ys)) × (length ys ≡ 4)) r
+      (map number-term (take n ys)) × Padded n ys) r
 
 -- the weights of a join
 abbrev pub WeightsSettled : WeightsEntry → Result (ℕ × ℕ) Fault → Type 0

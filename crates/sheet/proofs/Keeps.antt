@@ -23,7 +23,7 @@ use Rattle.sheet.specs.declared.table.Sheet.{Sheet}
 use Rattle.sheet.specs.Table.{name-of, shift-of, term-of, node-at, line-at, range-at, whole, formula-within, formula-at}
 use Rattle.sheet.specs.Keeping.{known-name, known-shift, known-term, known-terms, is-weight, is-part, may-call, entry-kept, Within, size, sizes, formula-of}
 use Rattle.sheet.proofs.Holding.{parts-of}
-use Rattle.sheet.specs.Sheets.{range-of, rule-of, tree-of, tree-of-parts, KnownName, KnownShift, KnownTerm, KnownTerms, params-of, body-of, no-rule, KeptFormula, KeptLine, KeptRange, sizes-of, Kept, Every-sheet-keeps}
+use Rattle.sheet.specs.Sheets.{range-of, rule-of, tree-of, KnownName, KnownShift, KnownTerm, KnownTerms, params-of, body-of, no-rule, KeptFormula, KeptLine, KeptRange, sizes-of, Kept, Every-sheet-keeps}
 
 and-both : (x y : Bool) → (x && y) ≡ true → (x ≡ true) × (y ≡ true)
 and-both x y e = grind (arith, tells, e)
@@ -44,11 +44,13 @@ term-known fields params (Moved b s) e =
     (name-known fields params b (h .0), shift-known s (h .1))
 
 terms-known :
-    (fields params : ℕ) (ts : List Term) → known-terms fields params ts ≡ true → KnownTerms fields params (map term-of ts)
-terms-known fields params [] e = tt
-terms-known fields params (t ∷ ts) e =
+    (fields params k : ℕ) (ts : List Term)
+    → known-terms fields params ts ≡ true → KnownTerms fields params (map term-of (take k ts))
+terms-known fields params zero ts e = tt
+terms-known fields params (suc k) [] e = tt
+terms-known fields params (suc k) (t ∷ ts) e =
     let h = and-both (known-term fields params t) (known-terms fields params ts) e in
-    (term-known fields params t (h .0), terms-known fields params ts (h .1))
+    (term-known fields params t (h .0), terms-known fields params k ts (h .1))
 
 no-line : Line
 no-line = record { params = 0; start = 0; body = 0 }
@@ -84,12 +86,12 @@ module _ (s : Sheet) where
         (term-known _ _ t (h .0), term-known _ _ u (h .1))
     whole-known n i parts (Call r k ts) e =
         let reaches : (r < s .«rule_count») × (r ≤ l) × (k ≡ line-at (s .lines) r .params) × (length ts ≡ 4) = grind (arith, tells, e) in
-        let knows : known-terms (s .«field_count») (line-at (s .lines) l .params) (take k ts) ≡ true = grind (arith, tells, e) in
+        let knows : known-terms (s .«field_count») (line-at (s .lines) l .params) ts ≡ true = grind (arith, tells, e) in
         let few = s .«lines_kept» r (omega (arith, reaches .0)) in
         (reach r (reaches .0) (reaches .1),
          length-map (take k ts) term-of ∙ length-take-le k ts (omega (arith, few, reaches .2, reaches .3)) ∙ reaches .2
          ∙ sym (ap params-of (rule-at (s .nodes) (s .lines) (s .«rule_count») r rules-long (reaches .0))),
-         terms-known _ _ (take k ts) knows)
+         terms-known _ _ k ts knows)
     whole-known n i parts (Not a) e =
         let h = parts-of (s .«field_count») (s .«rule_count») (s .lines) l i (Not a) e in
         parts a (h .0) (h .1)
@@ -140,7 +142,7 @@ sizes-are nodes [] = refl
 sizes-are nodes (l ∷ lines) = ap (λ k. size (formula-at nodes (l .body)) + k) (sizes-are nodes lines)
 
 pub every-sheet-keeps : Every-sheet-keeps
-unfolding tree-of tree-of-parts
+unfolding tree-of
 every-sheet-keeps s =
     let long : s .«field_count» ≤ length (s .ranges) = omega (arith, s .long, s .«some_fields») in
     let fields : length (map range-of (take (s .«field_count») (s .ranges))) ≡ s .«field_count» =

@@ -101,7 +101,7 @@ abbrev pub entry-kept : (fields rules : ℕ) → List Line → (l i : ℕ) → N
 entry-kept fields rules lines l i (Compare t c u) =
     known-term fields (line-at lines l .params) t && known-term fields (line-at lines l .params) u
 entry-kept fields rules lines l i (Call r n ts) =
-    may-call rules lines l r n && known-terms fields (line-at lines l .params) (take n ts) && eqb (length ts) 4
+    may-call rules lines l r n && known-terms fields (line-at lines l .params) ts && eqb (length ts) 4
 entry-kept fields rules lines l i (Not a) = is-part (line-at lines l .start) i a
 entry-kept fields rules lines l i (Pick b a) =
     known-name fields (line-at lines l .params) b && is-part (line-at lines l .start) i a

@@ -21,7 +21,7 @@ abbrev pub rule-of : List Node → Line → tree.Rule
 rule-of nodes l = tree.rule (l .params) (formula-at nodes (l .body))
 
 -- the tree that the parts of a sheet stand for
-unfoldable pub tree-of-parts : List Range → (fields : ℕ) → List Line → (rules : ℕ) → List Node → tree.Sheet
+abbrev pub tree-of-parts : List Range → (fields : ℕ) → List Line → (rules : ℕ) → List Node → tree.Sheet
 tree-of-parts ranges fields lines rules nodes =
     tree.sheet (map range-of (take fields ranges)) (map (rule-of nodes) (take rules lines))
     (formula-at nodes (mark-line rules lines .body))

@@ -9,12 +9,12 @@ use Rattle.sheet.specs.Table.{term-of as number-term}
 use Rattle.names.specs.Lists.{Each}
 use Rattle.names.specs.Names.{TermIs}
 use Rattle.names.specs.Faults.{terms-uses}
-use Rattle.names.specs.Looking.{names-of, UsesFault}
+use Rattle.names.specs.Looking.{names-of, UsesFault, Padded}
 use Rattle.names.proofs.entries.number_terms.Given as given
 
 abbrev pub Inv-loop-i : given.InvT-loop-i
 Inv-loop-i l =
-    (l .i ≤ l .n) × (length (l .numbered) ≡ 4)
+    (l .i ≤ l .n) × Padded (l .i) (l .numbered)
     × ((rs : List Rule) (m q : ℕ) → UsesFault (fields-of (l .text) (l .table)) rs (names-of (l .text) (l .params) (l .count)) (terms-uses (map (term-of (l .text)) (take (l .i) (l .terms)))) m q → ⊥)
     × Each Term tree.Term (TermIs (fields-of (l .text) (l .table)) (names-of (l .text) (l .params) (l .count)))
       (map (term-of (l .text)) (take (l .i) (l .terms))) (map number-term (take (l .i) (l .numbered)))

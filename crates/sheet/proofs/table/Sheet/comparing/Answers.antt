@@ -4,7 +4,7 @@ use native.Mathlib.Omega.{arith}
 use Rattle.std.proofs.shelf.Ways.{tells}
 use lib.Dec.{lit≤, lit<}
 use Rattle.sheet.specs.Table.{formula-at, formula-within}
-use Rattle.sheet.specs.Sheets.{tree-of, tree-of-parts}
+use Rattle.sheet.specs.Sheets.{tree-of}
 use Rattle.sheet.proofs.table.Sheet.comparing.Needs as need
 
 -- there is one number up to 0
@@ -41,5 +41,5 @@ ghost-result c =
              (lit≤ tt, tt))))))))))
 
 pub returns : need.returns
-unfolding tree-of tree-of-parts formula-at formula-within
+unfolding tree-of formula-at formula-within
 returns c = refl
