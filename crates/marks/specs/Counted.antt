@@ -1,13 +1,13 @@
--- Whether a set of marks of n fields has a mark, and which numbers a field takes in it, found by trying every number:
--- equal sets give equal answers.
+-- Whether a set of marks of n fields has a mark, and which numbers a field takes in it, found by trying
+-- every number.
+-- So equal sets have equal lists of values.
 use Prim.Native.Nat.{ℕ, zero, suc, _<_, _≤_}
 use mathlib.Core.Path.{_≡_}
-use mathlib.Core.Bool.{Bool, true, false, cond, _&&_, _||_}
+use mathlib.Core.Bool.{Bool, false, cond, _&&_, _||_}
 use mathlib.Core.List.{List, [], _∷_, _++_}
 use lib.ListN.{getD}
 use lib.Dec.{eqb, ltb}
-use Rattle.std.specs.Orderings.{Decides}
-use Rattle.marks.specs.Sets.{Marks, Empty, Values}
+use Rattle.marks.specs.Sets.{Marks, Values}
 
 -- whether a number below k passes the test
 unfoldable pub any-below : (ℕ → Bool) → ℕ → Bool
@@ -32,12 +32,6 @@ takes n S f v = some n (λ m. S m && eqb (getD m f 0) v)
 unfoldable pub values : ℕ → Marks → ℕ → List ℕ
 values n S f = cond (ltb f n) (below (takes n S f) 1024) []
 
--- What the two say, by the definitions of a set of marks
-
--- `some` is true exactly when S is not empty
-abbrev pub SomeTells : ℕ → Marks → Type 0
-SomeTells n S = Decides (some n S) (Empty S → ⊥)
-
--- vs are the different numbers that field f takes in S, ascending; none for a field of n or more
-abbrev pub Takes : ℕ → Marks → ℕ → List ℕ → Type 0
-Takes n S f vs = (f < n → Values S f vs) × (n ≤ f → vs ≡ [])
+-- vs is the list of the different numbers that field f takes in S, ascending; none for a field of n or more
+abbrev pub Taken : ℕ → Marks → ℕ → List ℕ → Type 0
+Taken n S f vs = (f < n → Values S f vs) × (n ≤ f → vs ≡ [])

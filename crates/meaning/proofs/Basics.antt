@@ -51,7 +51,8 @@ pub holds-aimed : (b : Bool) (s : Comparison) (x y : ℕ) → holds s x y ≡ b 
 holds-aimed true s x y h = h
 holds-aimed false s x y h = holds-opposite s x y ∙ ap not h
 
-pub at-getD : (m : List ℕ) (e : List Argument) (p : ℕ) → at m (getD e p (the-number 0)) ≡ getD (map (at m) e) p 0
+pub at-getD :
+    (m : List ℕ) (e : List Argument) (p : ℕ) → at m (getD e p (the-number 0)) ≡ getD (map (at m) e) p 0
 at-getD m [] p = refl
 at-getD m (a ∷ e) zero = refl
 at-getD m (a ∷ e) (suc p) = at-getD m e p

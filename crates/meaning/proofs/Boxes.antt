@@ -55,7 +55,8 @@ onto-past : (v : ℕ) (m : List ℕ) (l r : List (List ℕ)) → Mem m r → Mem
 onto-past v m [] r i = i
 onto-past v m (x ∷ l) r i = inr (onto-past v m l r i)
 
-in-spread : (vs : List ℕ) (l : List (List ℕ)) (v : ℕ) (m : List ℕ) → In v vs → Mem m l → Mem (v ∷ m) (spread vs l)
+in-spread :
+    (vs : List ℕ) (l : List (List ℕ)) (v : ℕ) (m : List ℕ) → In v vs → Mem m l → Mem (v ∷ m) (spread vs l)
 in-spread [] l v m i j = absurd i
 in-spread (x ∷ vs) l v m (inl p) j =
     subst (λ (y : ℕ). Mem (y ∷ m) (onto x l (spread vs l))) (sym p) (onto-has x m l (spread vs l) j)
@@ -64,7 +65,8 @@ in-spread (x ∷ vs) l v m (inr i) j = onto-past x (v ∷ m) l (spread vs l) (in
 ranged-past : (rs : List Range) (f x : ℕ) (m : List ℕ) → ranged rs (suc f) (x ∷ m) ≡ ranged rs f m
 ranged-past [] f x m = refl
 ranged-past (range low high ∷ rs) f x m =
-    ap (λ (b : Bool). (holds AtLeast (getD m f 0) low && holds AtMost (getD m f 0) high) && b) (ranged-past rs (suc f) x m)
+    ap (λ (b : Bool). (holds AtLeast (getD m f 0) low && holds AtMost (getD m f 0) high) && b)
+    (ranged-past rs (suc f) x m)
 
 pub in-box : (rs : List Range) (m : List ℕ) → length m ≡ length rs → ranged rs 0 m ≡ true → Mem m (box rs)
 in-box [] [] e h = inl refl
@@ -82,4 +84,5 @@ in-box (range low high ∷ rs) (x ∷ m) e h =
 unfoldable pub counted-box :
     (S : Marks) (rs : List Range) → ((m : List ℕ) → S m ≡ true → length m ≡ length rs) → Counted (inside S rs)
 counted-box S rs long =
-    counted-list (box rs) (inside S rs) (λ m h. in-box rs m (long m (and-left (S m) _ h)) (and-right (S m) _ h))
+    counted-list (box rs) (inside S rs) (λ m h. in-box rs m (long m (and-left (S m) _ h))
+    (and-right (S m) _ h))

@@ -44,8 +44,15 @@ pub comparings : Comparisons-keep
 comparings =
     λ S s.
     record {
-      two-pass = λ a b x y p q h. fun-ext (λ m. under (S m) _ true (λ g. ap₂ (holds s) (is-at S a x p m g) (is-at S b y q m g) ∙ h) ∙ and-true (S m));
-      two-fail = λ a b x y p q h m g. clash (sym h ∙ sym (ap₂ (holds s) (is-at S a x p m (and-left (S m) _ g)) (is-at S b y q m (and-left (S m) _ g))) ∙ and-right (S m) _ g);
-      left-field = λ f b y q. fun-ext (λ m. under (S m) _ _ (λ g. ap (holds s (getD m f 0)) (is-at S b y q m g)));
-      right-field = λ a f x p. fun-ext (λ m. under (S m) _ _ (λ g. ap (λ (z : ℕ). holds s z (getD m f 0)) (is-at S a x p m g) ∙ holds-mirrored s x (getD m f 0)));
+      two-pass =
+          λ a b x y p q h. fun-ext (λ m. under (S m) _ true
+          (λ g. ap₂ (holds s) (is-at S a x p m g) (is-at S b y q m g) ∙ h) ∙ and-true (S m));
+      two-fail =
+          λ a b x y p q h m g. clash (sym h ∙ sym (ap₂ (holds s) (is-at S a x p m (and-left (S m) _ g))
+          (is-at S b y q m (and-left (S m) _ g))) ∙ and-right (S m) _ g);
+      left-field =
+          λ f b y q. fun-ext (λ m. under (S m) _ _ (λ g. ap (holds s (getD m f 0)) (is-at S b y q m g)));
+      right-field =
+          λ a f x p. fun-ext (λ m. under (S m) _ _ (λ g.
+          ap (λ (z : ℕ). holds s z (getD m f 0)) (is-at S a x p m g) ∙ holds-mirrored s x (getD m f 0)));
     }

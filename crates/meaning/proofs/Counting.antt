@@ -22,7 +22,8 @@ abbrev Found : ℕ → ℕ → Marks → Type 0
 Found c w Q = ((m : List ℕ) × (Q m ≡ true)) ⊎ ((m : List ℕ) → Fits c w m → Q m ≡ true → ⊥)
 
 below : ℕ → ℕ → Marks → ℕ → Type 0
-below c w Q d = ((m : List ℕ) × (Q m ≡ true)) ⊎ ((x : ℕ) → x < d → (m : List ℕ) → Fits c w m → Q (x ∷ m) ≡ true → ⊥)
+below c w Q d =
+    ((m : List ℕ) × (Q m ≡ true)) ⊎ ((x : ℕ) → x < d → (m : List ℕ) → Fits c w m → Q (x ∷ m) ≡ true → ⊥)
 
 scan : (c w : ℕ) → ((Q : Marks) → Found c w Q) → (Q : Marks) (d : ℕ) → below c w Q d
 unfolding below
@@ -57,7 +58,8 @@ find c (suc w) Q = go (scan c w (find c w) Q c)
       where
         none : (m : List ℕ) → Fits c (suc w) m → Q m ≡ true → ⊥
         none [] g h = let z : 0 ≡ suc w = g .0 in omega arith
-        none (y ∷ m) g h = let z : suc (length m) ≡ suc w = g .0 in x y (g .1 0) m (omega arith, λ f. g .1 (suc f)) h
+        none (y ∷ m) g h =
+            let z : suc (length m) ≡ suc w = g .0 in x y (g .1 0) m (omega arith, λ f. g .1 (suc f)) h
 
 module _ (c w : ℕ) (P : Marks) (fits : (m : List ℕ) → P m ≡ true → Fits c w m) (f : ℕ) where
   -- the numbers of the field from k on, d of them tried
@@ -69,7 +71,15 @@ module _ (c w : ℕ) (P : Marks) (fits : (m : List ℕ) → P m ≡ true → Fit
     only : (v : ℕ) → In v list → ((m : List ℕ) → P m ≡ true → getD m f 0 ≢ v) → ⊥
 
   from : (d k : ℕ) → From d k
-  from zero k = record { list = []; ascending = tt; all = λ m h a b. (let z : ⊥ = omega arith in absurd z); low = λ v i. absurd i; only = λ v i. absurd i }
+  from zero k =
+      record {
+        list = [];
+        ascending = tt;
+        all = λ m h a b.
+            (let z : ⊥ = omega arith in absurd z);
+        low = λ v i. absurd i;
+        only = λ v i. absurd i;
+      }
   from (suc d) k = go (from d (suc k)) (find c w (λ m. P m && eqb (getD m f 0) k))
     where
       go : From d (suc k) → Found c w (λ m. P m && eqb (getD m f 0) k) → From (suc d) k
@@ -82,7 +92,9 @@ module _ (c w : ℕ) (P : Marks) (fits : (m : List ℕ) → P m ≡ true → Fit
             only = only′;
           }
         where
-          with-it : (m : List ℕ) → P m ≡ true → k ≤ getD m f 0 → getD m f 0 < k + suc d → Dec (getD m f 0 ≡ k) → In (getD m f 0) (k ∷ r .list)
+          with-it :
+              (m : List ℕ) → P m ≡ true → k ≤ getD m f 0 → getD m f 0 < k + suc d → Dec (getD m f 0 ≡ k)
+              → In (getD m f 0) (k ∷ r .list)
           with-it m h a b (yes p) = inl p
           with-it m h a b (no n) = inr (r .all m h (omega arith) (omega arith))
 
@@ -91,7 +103,9 @@ module _ (c w : ℕ) (P : Marks) (fits : (m : List ℕ) → P m ≡ true → Fit
           low′ v (inr i) = let l : suc k ≤ v = r .low v i in omega arith
 
           only′ : (v : ℕ) → In v (k ∷ r .list) → ((m : List ℕ) → P m ≡ true → getD m f 0 ≢ v) → ⊥
-          only′ v (inl p) q = q (x .0) (and-left _ _ (x .1)) (eqb-true (getD (x .0) f 0) k (and-right (P (x .0)) _ (x .1)) ∙ sym p)
+          only′ v (inl p) q =
+              q (x .0) (and-left _ _ (x .1)) (eqb-true (getD (x .0) f 0) k (and-right (P (x .0)) _ (x .1))
+              ∙ sym p)
           only′ v (inr i) q = r .only v i q
       go r (inr x) =
           record {
@@ -102,14 +116,23 @@ module _ (c w : ℕ) (P : Marks) (fits : (m : List ℕ) → P m ≡ true → Fit
             only = r .only;
           }
         where
-          without : (m : List ℕ) → P m ≡ true → k ≤ getD m f 0 → getD m f 0 < k + suc d → Dec (getD m f 0 ≡ k) → In (getD m f 0) (r .list)
+          without :
+              (m : List ℕ) → P m ≡ true → k ≤ getD m f 0 → getD m f 0 < k + suc d → Dec (getD m f 0 ≡ k)
+              → In (getD m f 0) (r .list)
           without m h a b (yes p) = absurd (x m (fits m h) (and-both _ _ h (eq-eqb (getD m f 0) k p)))
           without m h a b (no n) = r .all m h (omega arith) (omega arith)
 
   boxed : (vs : List ℕ) × Values P f vs
   boxed =
-      let r = from c 0 in
-      (r .list, record { ascending = r .ascending; all = λ m h. (let l : getD m f 0 < c = fits m h .1 f in r .all m h (omega arith) (omega arith)); only = r .only })
+      let r = from c 0 in (
+        r .list,
+        record {
+          ascending = r .ascending;
+          all = λ m h.
+              (let l : getD m f 0 < c = fits m h .1 f in r .all m h (omega arith) (omega arith));
+          only = r .only;
+        },
+      )
 
 -- every part of S has its fields' numbers
 abbrev pub Counted : Marks → Type 0

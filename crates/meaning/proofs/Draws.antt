@@ -15,7 +15,8 @@ use Rattle.meaning.specs.Terms.{fields-of}
 use Rattle.meaning.specs.Traces.{Choice, among, branch, width, Entry, took, Trace, Apart, here, there}
 use Rattle.meaning.specs.Runs.{Outcome, Run}
 use Rattle.meaning.specs.Picks.{Fair, Told, told-none, told-one, told-past}
-use Rattle.meaning.specs.Draws.{drawn, Takes, takes-none, takes-one, Drawn, ran, dry, Draws, draws, runs-dry, OneDraw, Draws-one}
+use Rattle.meaning.specs.Draws.{drawn, Takes, takes-none, takes-one, Drawn, ran, dry, Draws, draws}
+use Rattle.meaning.specs.Draws.{runs-dry, OneDraw, Draws-one}
 use Rattle.meaning.proofs.Runs.{run-part}
 use Rattle.meaning.proofs.Picks.{all-told}
 
@@ -30,7 +31,9 @@ drawn-fair r (branch v w) h = go (ltb (r % (v + w)) v)
 -- where a told trace has its last number
 data Split (ns : List ℕ) : Trace → List ℕ → Type 0 where
   full : {t : Trace} {ls : List ℕ} → Takes ns t ls → Split ns t ls
-  short : {t : Trace} {ls : List ℕ} (u : Trace) (k : ℕ) (c : Choice) (v : Trace) → t ≡ (u ++ took k c ∷ v) → Takes ns u [] → Split ns t ls
+  short :
+      {t : Trace} {ls : List ℕ} (u : Trace) (k : ℕ) (c : Choice) (v : Trace) → t ≡ (u ++ took k c ∷ v)
+      → Takes ns u [] → Split ns t ls
 
 split : {ns ls : List ℕ} {t : Trace} → Told drawn ns t ls → Split ns t ls
 split told-none = full takes-none
@@ -70,7 +73,8 @@ module _ (e : Entry) (v : Trace) where
   never-short :
       {ns ls : List ℕ} {t u : Trace}
       → Takes ns t ls → Takes ns u [] → ((t ≡ (u ++ e ∷ v)) ⊎ Apart t (u ++ e ∷ v)) → ⊥
-  never-short {u = u} x y (inl p) = omega (arith, takes-length x, takes-length y, ap length p, length-append u (e ∷ v))
+  never-short {u = u} x y (inl p) =
+      omega (arith, takes-length x, takes-length y, ap length p, length-append u (e ∷ v))
   never-short x y (inr a) = short-apart x y a
 
   same-front :
@@ -79,7 +83,8 @@ module _ (e : Entry) (v : Trace) where
       → (((t ++ e ∷ v) ≡ (u ++ f ∷ w)) ⊎ Apart (t ++ e ∷ v) (u ++ f ∷ w))
       → t ≡ u
   same-front f w takes-none takes-none h = refl
-  same-front f w (takes-one p x) (takes-one q y) (inl h) = ap₂ {C = Trace} _∷_ (cc) (same-front f w x y (inl (cc)))
+  same-front f w (takes-one p x) (takes-one q y) (inl h) =
+      ap₂ {C = Trace} _∷_ (cc) (same-front f w x y (inl (cc)))
   same-front f w (takes-one p x) (takes-one q y) (inr (here n)) = absurd (n (p ∙ sym q))
   same-front f w (takes-one {k = k} {c = c} p x) (takes-one q y) (inr (there a)) =
       ap {B = Trace} (λ z. took k c ∷ z) (same-front f w x y (inr a))
@@ -90,14 +95,18 @@ module _ (sh : Sheet) (fuel : ℕ) (S : Marks) (B : MarksOf (fields-of sh) S) (n
       let r = all-told sh fuel S B drawn drawn-fair ns in
       go (r .trace) (r .outcome) (r .left) (r .run) (split (r .told))
     where
-      go : (t : Trace) (a : Outcome) (l : List ℕ) → Run sh fuel S t a → Split ns t l → (d : Drawn) × (t : Trace) × (l : List ℕ) × Draws sh fuel S ns d t l
+      go :
+          (t : Trace) (a : Outcome) (l : List ℕ) → Run sh fuel S t a → Split ns t l
+          → (d : Drawn) × (t : Trace) × (l : List ℕ) × Draws sh fuel S ns d t l
       go t a l r (full x) = (ran a, t, l, draws r x)
-      go t a l r (short u k c v p x) = (dry, u, [], runs-dry (took k c) v (subst (λ (z : Trace). Run sh fuel S z a) p r) x)
+      go t a l r (short u k c v p x) =
+          (dry, u, [], runs-dry (took k c) v (subst (λ (z : Trace). Run sh fuel S z a) p r) x)
 
   only-draw :
       {d e : Drawn} {t u : Trace} {l k : List ℕ}
       → Draws sh fuel S ns d t l → Draws sh fuel S ns e u k → (d ≡ e) × (t ≡ u) × (l ≡ k)
-  only-draw (draws {ls = ls} {t = t} {a = a} r x) (draws {ls = ks} {t = u} {a = c} q y) = go (run-part sh fuel S B t u a c r q)
+  only-draw (draws {ls = ls} {t = t} {a = a} r x) (draws {ls = ks} {t = u} {a = c} q y) =
+      go (run-part sh fuel S B t u a c r q)
     where
       go : ((t ≡ u) × (a ≡ c)) ⊎ Apart t u → (ran a ≡ ran c) × (t ≡ u) × (ls ≡ ks)
       go (inl p) = (ap ran (p .1), p .0, takes-left x (subst (λ (z : Trace). Takes ns z ks) (sym (p .0)) y))

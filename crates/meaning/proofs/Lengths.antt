@@ -14,11 +14,16 @@ use Rattle.formula.specs.Trees.{Term, Formula, Range, Rule, Sheet}
 use Rattle.marks.specs.Sets.{Marks, Values}
 use Rattle.meaning.specs.Terms.{fields-of, body, rules-of}
 use Rattle.meaning.specs.Traces.{among, branch, took, Trace}
-use Rattle.meaning.specs.Matching.{Argument, Settles, number, known, chosen, Resolves, numeral, as-it-is, settled, Passes, no-more, passes, LeavesOne, left-first, at-most-one, State, live, spent, Lives, some-left, none-left, Matches, stays-dead, stays-spent, compares, calls, calls-out, negates, picks, both-sides, left-side, right-side}
+use Rattle.meaning.specs.Matching.{Argument, Settles, number, known, chosen, Resolves, numeral, as-it-is}
+use Rattle.meaning.specs.Matching.{settled, Passes, no-more, passes, LeavesOne, left-first, at-most-one}
+use Rattle.meaning.specs.Matching.{State, live, spent, Lives, some-left, none-left, Matches, stays-dead}
+use Rattle.meaning.specs.Matching.{stays-spent, compares, calls, calls-out, negates, picks, both-sides}
+use Rattle.meaning.specs.Matching.{left-side, right-side}
 use Rattle.meaning.specs.Runs.{Outcome, Ends, ended, ends, Finishes, whole, at-dead, at-spent, Run, runs}
 use Rattle.meaning.specs.Lengths.{joins, Traces-short, FewJoins}
 use Rattle.meaning.proofs.Basics.{and-left, and-right}
-use Rattle.meaning.proofs.Soundness.{Held, fuel-of, settles-sound, resolves-sound, passes-sound, leaves-sound, lives-sound, sound}
+use Rattle.meaning.proofs.Soundness.{Held, fuel-of, settles-sound, resolves-sound, passes-sound}
+use Rattle.meaning.proofs.Soundness.{leaves-sound, lives-sound, sound}
 
 -- branches of joins, and fields
 forks : Trace → ℕ
@@ -57,13 +62,16 @@ settles-forks number = refl
 settles-forks (known V) = refl
 settles-forks (chosen k V n h) = refl
 
-resolves-forks : {e : List Argument} {S P : Marks} {r : Term} {t : Trace} {a : Argument} → Resolves e S r t P a → forks t ≡ 0
+resolves-forks :
+    {e : List Argument} {S P : Marks} {r : Term} {t : Trace} {a : Argument} → Resolves e S r t P a
+    → forks t ≡ 0
 unfolding forks
 resolves-forks numeral = refl
 resolves-forks as-it-is = refl
 resolves-forks (settled s) = settles-forks s
 
-passes-forks : {e d : List Argument} {S P : Marks} {ts : List Term} {t : Trace} → Passes e S ts t P d → forks t ≡ 0
+passes-forks :
+    {e d : List Argument} {S P : Marks} {ts : List Term} {t : Trace} → Passes e S ts t P d → forks t ≡ 0
 unfolding forks
 passes-forks no-more = refl
 passes-forks (passes {t = t} {u = u} s r) =
@@ -95,7 +103,9 @@ lives-fuel J (some-left x) = omega arith
 lives-fuel J (none-left x) = omega arith
 
 module _ (rules : List Rule) (J : ℕ) (small : (r : ℕ) → joins (body rules r) ≤ J) where
-  matches-forks : {e : List Argument} {F : Formula} {b : Bool} {i o : State} {t : Trace} → Matches rules e F b i t o → forks t + J * fuel-of o ≤ joins F + J * fuel-of i
+  matches-forks :
+      {e : List Argument} {F : Formula} {b : Bool} {i o : State} {t : Trace} → Matches rules e F b i t o
+      → forks t + J * fuel-of o ≤ joins F + J * fuel-of i
   unfolding forks
   matches-forks stays-dead = omega arith
   matches-forks stays-spent = omega arith
@@ -158,7 +168,10 @@ unfolding count
 count-with K f zero n h = absurd (not-suc-le-zero h)
 count-with K f (suc w) n h = go (ℕ-discrete w f) (λ g. count-with K f w n g)
   where
-    go : Dec (w ≡ f) → (f < w → count (with-field K f) w ≡ suc (count K w)) → cond (with-field K f w) (suc (count (with-field K f) w)) (count (with-field K f) w) ≡ suc (cond (K w) (suc (count K w)) (count K w))
+    go :
+        Dec (w ≡ f) → (f < w → count (with-field K f) w ≡ suc (count K w))
+        → cond (with-field K f w) (suc (count (with-field K f) w)) (count (with-field K f) w) ≡ suc
+        (cond (K w) (suc (count K w)) (count K w))
     go (yes p) r =
         let a : with-field K f w ≡ true = ap (λ (b : Bool). b || K w) (eq-eqb w f p) in
         let b : K w ≡ false = ap K p ∙ n in
@@ -169,7 +182,9 @@ count-with K f (suc w) n h = go (ℕ-discrete w f) (λ g. count-with K f w n g)
         let c = r (omega arith) in
         cond-same a (ap suc c) c ∙ split (K w)
       where
-        split : (b : Bool) → cond b (suc (suc (count K w))) (suc (count K w)) ≡ suc (cond b (suc (count K w)) (count K w))
+        split :
+            (b : Bool)
+            → cond b (suc (suc (count K w))) (suc (count K w)) ≡ suc (cond b (suc (count K w)) (count K w))
         split true = refl
         split false = refl
 
@@ -181,11 +196,15 @@ sure-part : (K : ℕ → Bool) (S P : Marks) → ((m : List ℕ) → P m ≡ tru
 sure-part K S P s x f h = let r = x f h in (r .0, λ m g. r .1 m (s m g))
 
 -- a field with one number is not a choice
-not-chosen : (S : Marks) (f v : ℕ) (vs : List ℕ) (k : ℕ) → Values S f vs → length vs ≢ 1 → k < length vs → ((m : List ℕ) → S m ≡ true → getD m f 0 ≡ v) → ⊥
+not-chosen :
+    (S : Marks) (f v : ℕ) (vs : List ℕ) (k : ℕ) → Values S f vs → length vs ≢ 1 → k < length vs
+    → ((m : List ℕ) → S m ≡ true → getD m f 0 ≡ v) → ⊥
 not-chosen S f v [] k V n h x = not-suc-le-zero h
 not-chosen S f v (a ∷ []) k V n h x = n refl
 not-chosen S f v (a ∷ b ∷ vs) k V n h x =
-    V .only a (inl refl) (λ m p q. V .only b (inr (inl refl)) (λ m′ p′ q′. (let l : a < b = V .ascending .0 b (inl refl) in let e : a ≡ b = sym q ∙ x m p ∙ sym (x m′ p′) ∙ q′ in omega arith)))
+    V .only a (inl refl) (λ m p q. V .only b (inr (inl refl))
+    (λ m′ p′ q′. (let l : a < b = V .ascending .0 b (inl refl) in
+    let e : a ≡ b = sym q ∙ x m p ∙ sym (x m′ p′) ∙ q′ in omega arith)))
 
 getD-past : (m : List ℕ) (f : ℕ) → length m ≤ f → getD m f 0 ≡ 0
 getD-past [] f h = refl
@@ -198,14 +217,18 @@ module _ (w : ℕ) where
 
   -- from S by the trace t to P: K grows by the fields of t
   abbrev Grows : Marks → Trace → Marks → Type 0
-  Grows S t P = Long S → (K : ℕ → Bool) → Sure K S → (L : ℕ → Bool) × Sure L P × (fields t + count K w ≤ count L w)
+  Grows S t P =
+      Long S → (K : ℕ → Bool) → Sure K S → (L : ℕ → Bool) × Sure L P × (fields t + count K w ≤ count L w)
 
   settles-grows : {S P : Marks} {a : Argument} {t : Trace} {v : ℕ} → Settles S a t P v → Grows S t P
   unfolding fields
   settles-grows number long K x = (K, x, omega arith)
   settles-grows (known V) long K x = (K, x, omega arith)
-  settles-grows {S} (chosen {f = f} {vs = vs} k V n h) long K x =
-      (with-field K f, (λ g. sure g (ℕ-discrete g f)), (let e = count-with K f w (fresh (K f) refl) (below (decLt f w)) in omega arith))
+  settles-grows {S} (chosen {f = f} {vs = vs} k V n h) long K x = (
+    with-field K f,
+    (λ g. sure g (ℕ-discrete g f)),
+    (let e = count-with K f w (fresh (K f) refl) (below (decLt f w)) in omega arith),
+  )
     where
       fresh : (b : Bool) → K f ≡ b → b ≡ false
       fresh true p = absurd (let r = x f p in not-chosen S f (r .0) vs k V n h (r .1))
@@ -213,30 +236,43 @@ module _ (w : ℕ) where
 
       below : Dec (f < w) → f < w
       below (yes p) = p
-      below (no q) = absurd (not-chosen S f 0 vs k V n h (λ m g. (let l = long m g in getD-past m f (omega arith))))
+      below (no q) =
+          absurd (not-chosen S f 0 vs k V n h (λ m g. (let l = long m g in getD-past m f (omega arith))))
 
-      sure : (g : ℕ) → Dec (g ≡ f) → with-field K f g ≡ true → (v : ℕ) × ((m : List ℕ) → (S m && eqb (getD m f 0) (getD vs k 0)) ≡ true → getD m g 0 ≡ v)
-      sure g (yes p) q = (getD vs k 0, λ m y. ap (λ (i : ℕ). getD m i 0) p ∙ eqb-true (getD m f 0) (getD vs k 0) (and-right (S m) _ y))
+      sure :
+          (g : ℕ) → Dec (g ≡ f) → with-field K f g ≡ true
+          → (v : ℕ) × ((m : List ℕ) → (S m && eqb (getD m f 0) (getD vs k 0)) ≡ true → getD m g 0 ≡ v)
+      sure g (yes p) q = (
+        getD vs k 0,
+        λ m y. ap (λ (i : ℕ). getD m i 0) p
+            ∙ eqb-true (getD m f 0) (getD vs k 0) (and-right (S m) _ y),
+      )
       sure g (no p) q =
           let r = x g (sym (ap (λ (b : Bool). b || K g) (apart-eqb g f p)) ∙ q) in
           (r .0, λ m y. r .1 m (and-left (S m) _ y))
 
-  grows-join : (S P Q : Marks) (t u : Trace) → Grows S t P → ((m : List ℕ) → P m ≡ true → S m ≡ true) → Grows P u Q → Grows S (t ++ u) Q
+  grows-join :
+      (S P Q : Marks) (t u : Trace) → Grows S t P → ((m : List ℕ) → P m ≡ true → S m ≡ true) → Grows P u Q
+      → Grows S (t ++ u) Q
   grows-join S P Q t u f s g long K x =
       let p = f long K x in
       let q = g (λ m h. long m (s m h)) (p .0) (p .1) in
       (q .0, q .1, omega (arith, fields-join t u, p .2, q .2))
 
-  resolves-grows : {e : List Argument} {S P : Marks} {r : Term} {t : Trace} {a : Argument} → Resolves e S r t P a → Grows S t P
+  resolves-grows :
+      {e : List Argument} {S P : Marks} {r : Term} {t : Trace} {a : Argument} → Resolves e S r t P a
+      → Grows S t P
   unfolding fields
   resolves-grows numeral = λ long K x. (K, x, omega arith)
   resolves-grows as-it-is = λ long K x. (K, x, omega arith)
   resolves-grows (settled s) = settles-grows s
 
-  passes-grows : {e d : List Argument} {S P : Marks} {ts : List Term} {t : Trace} → Passes e S ts t P d → Grows S t P
+  passes-grows :
+      {e d : List Argument} {S P : Marks} {ts : List Term} {t : Trace} → Passes e S ts t P d → Grows S t P
   unfolding fields
   passes-grows no-more = λ long K x. (K, x, omega arith)
-  passes-grows (passes {t = t} {u = u} s r) = grows-join _ _ _ t u (resolves-grows s) (λ m h. resolves-sound s m h .0) (passes-grows r)
+  passes-grows (passes {t = t} {u = u} s r) =
+      grows-join _ _ _ t u (resolves-grows s) (λ m h. resolves-sound s m h .0) (passes-grows r)
 
   leaves-grows : {S P : Marks} {a b : Argument} {t : Trace} → LeavesOne S a b t P → Grows S t P
   unfolding fields
@@ -246,43 +282,61 @@ module _ (w : ℕ) where
   ends-grows : {f c : ℕ} {S P : Marks} {t : Trace} {vs : List ℕ} → Ends f c S t P vs → Grows S t P
   unfolding fields
   ends-grows ended = λ long K x. (K, x, omega arith)
-  ends-grows (ends {t = t} {u = u} s r) = grows-join _ _ _ t u (settles-grows s) (λ m h. settles-sound s m h .0) (ends-grows r)
+  ends-grows (ends {t = t} {u = u} s r) =
+      grows-join _ _ _ t u (settles-grows s) (λ m h. settles-sound s m h .0) (ends-grows r)
 
-  -- the same of outcomes
+  -- the same of states
   abbrev Stays : (ℕ → Bool) → State → Type 0
   Stays K o = (f : ℕ) → K f ≡ true → (v : ℕ) × ((m : List ℕ) → Held o m → getD m f 0 ≡ v)
 
   abbrev Rises : State → Trace → State → Type 0
-  Rises i t o = ((m : List ℕ) → Held i m → length m ≡ w) → (K : ℕ → Bool) → Stays K i → (L : ℕ → Bool) × Stays L o × (fields t + count K w ≤ count L w)
+  Rises i t o =
+      ((m : List ℕ) → Held i m → length m ≡ w) → (K : ℕ → Bool) → Stays K i
+      → (L : ℕ → Bool) × Stays L o × (fields t + count K w ≤ count L w)
 
   stays-part : (K : ℕ → Bool) (i o : State) → ((m : List ℕ) → Held o m → Held i m) → Stays K i → Stays K o
   stays-part K i o s x f h = let r = x f h in (r .0, λ m g. r .1 m (s m g))
 
-  rises-join : (i j o : State) (t u : Trace) → Rises i t j → ((m : List ℕ) → Held j m → Held i m) → Rises j u o → Rises i (t ++ u) o
+  rises-join :
+      (i j o : State) (t u : Trace) → Rises i t j → ((m : List ℕ) → Held j m → Held i m) → Rises j u o
+      → Rises i (t ++ u) o
   rises-join i j o t u f s g long K x =
       let p = f long K x in
       let q = g (λ m h. long m (s m h)) (p .0) (p .1) in
       (q .0, q .1, omega (arith, fields-join t u, p .2, q .2))
 
   module _ (rules : List Rule) where
-    matches-rises : {e : List Argument} {F : Formula} {b : Bool} {i o : State} {t : Trace} → Matches rules e F b i t o → Rises i t o
+    matches-rises :
+        {e : List Argument} {F : Formula} {b : Bool} {i o : State} {t : Trace} → Matches rules e F b i t o
+        → Rises i t o
     unfolding fields
     matches-rises stays-dead = λ long K x. (K, x, omega arith)
     matches-rises stays-spent = λ long K x. (K, x, omega arith)
-    matches-rises (compares {n = n} {S = S} {S₁ = S₁} {S₂ = S₂} {S₃ = S₃} {t = t} {t₁ = t₁} {t₂ = t₂} {o = o} p q r z) = λ long K x.
-        let y = grows-join S S₁ S₃ t (t₁ ++ t₂) (resolves-grows p) (λ m h. resolves-sound p m h .0) (grows-join S₁ S₂ S₃ t₁ t₂ (resolves-grows q) (λ m h. resolves-sound q m h .0) (leaves-grows r)) long K x in
+    matches-rises (compares {n = n} {S = S} {S₁ = S₁} {S₂ = S₂} {S₃ = S₃} {t = t} {t₁ = t₁} {t₂ = t₂}
+        {o = o} p q r z) = λ long K x.
+        let y = grows-join S S₁ S₃ t (t₁ ++ t₂) (resolves-grows p) (λ m h. resolves-sound p m h .0)
+        (grows-join S₁ S₂ S₃ t₁ t₂ (resolves-grows q) (λ m h. resolves-sound q m h .0) (leaves-grows r))
+        long K x in
         (y .0, stays-part (y .0) (live n S₃) o (λ m h. and-left (S₃ m) _ (lives-sound z m h .0)) (y .1), y .2)
-    matches-rises (calls {n = n} {S = S} {S₁ = S₁} {t = t} {u = u} {o = o} p q) = rises-join (live (suc n) S) (live n S₁) o t u (passes-grows p) (λ m h. passes-sound p m h .0) (matches-rises q)
+    matches-rises (calls {n = n} {S = S} {S₁ = S₁} {t = t} {u = u} {o = o} p q) =
+        rises-join (live (suc n) S) (live n S₁) o t u (passes-grows p) (λ m h. passes-sound p m h .0)
+        (matches-rises q)
     matches-rises (calls-out {S = S} {S₁ = S₁} p) = λ long K x.
         let y = passes-grows p long K x in
         (y .0, stays-part (y .0) (live zero S₁) spent (λ m h. absurd h) (y .1), y .2)
     matches-rises (negates p) = matches-rises p
-    matches-rises (picks {n = n} {S = S} {S₁ = S₁} {t = t} {u = u} {o = o} p q) = rises-join (live n S) (live n S₁) o t u (settles-grows p) (λ m h. settles-sound p m h .0) (matches-rises q)
-    matches-rises (both-sides {n = n} {S = S} {t = t} {u = u} {i = i} {o = o} j p q) = rises-join (live n S) i o t u (matches-rises p) (λ m h. sound rules m p h .0) (matches-rises q)
+    matches-rises (picks {n = n} {S = S} {S₁ = S₁} {t = t} {u = u} {o = o} p q) =
+        rises-join (live n S) (live n S₁) o t u (settles-grows p) (λ m h. settles-sound p m h .0)
+        (matches-rises q)
+    matches-rises (both-sides {n = n} {S = S} {t = t} {u = u} {i = i} {o = o} j p q) =
+        rises-join (live n S) i o t u (matches-rises p) (λ m h. sound rules m p h .0) (matches-rises q)
     matches-rises (left-side n p) = matches-rises p
-    matches-rises (right-side {n = n} {S = S} {t = t} {u = u} {i = i} {o = o} j p q) = rises-join (live n S) i o t u (matches-rises p) (λ m h. sound rules m p h .0) (matches-rises q)
+    matches-rises (right-side {n = n} {S = S} {t = t} {u = u} {i = i} {o = o} j p q) =
+        rises-join (live n S) i o t u (matches-rises p) (λ m h. sound rules m p h .0) (matches-rises q)
 
-    finishes-most : {o : State} {t : Trace} {a : Outcome} → Finishes w o t a → ((m : List ℕ) → Held o m → length m ≡ w) → (K : ℕ → Bool) → Stays K o → fields t + count K w ≤ w
+    finishes-most :
+        {o : State} {t : Trace} {a : Outcome} → Finishes w o t a → ((m : List ℕ) → Held o m → length m ≡ w)
+        → (K : ℕ → Bool) → Stays K o → fields t + count K w ≤ w
     unfolding fields
     finishes-most (whole d) long K x =
         let y = ends-grows d long K x in
@@ -298,9 +352,11 @@ module _ (w : ℕ) where
       → fields t ≤ w
   run-fields {sh} {S = S} e long (runs {i = i} {o = o} {t = t} {u = u} {a = a} l x f) =
       let rules = rules-of sh in
-      let far : (m : List ℕ) → Held i m → length m ≡ w = λ m h. long m (and-left (S m) _ (lives-sound l m h .0)) in
+      let far : (m : List ℕ) → Held i m → length m ≡ w = λ m h.
+      long m (and-left (S m) _ (lives-sound l m h .0)) in
       let p = matches-rises rules x far (λ g. false) (λ g h. absurd (clash h)) in
-      let q = finishes-most rules (subst (λ (n : ℕ). Finishes n o u a) (sym e) f) (λ m h. far m (sound rules m x h .0)) (p .0) (p .1) in
+      let q = finishes-most rules (subst (λ (n : ℕ). Finishes n o u a) (sym e) f)
+      (λ m h. far m (sound rules m x h .0)) (p .0) (p .1) in
       omega (arith, fields-join t u, p .2, q)
 
 run-forks :

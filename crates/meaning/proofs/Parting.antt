@@ -8,7 +8,10 @@ use mathlib.Core.List.{List, [], _∷_, _++_}
 use Rattle.formula.specs.Trees.{Term, Formula, Rule}
 use Rattle.marks.specs.Sets.{Marks}
 use Rattle.meaning.specs.Traces.{Trace, Within, none, one, Apart}
-use Rattle.meaning.specs.Matching.{Argument, Settles, number, known, chosen, Resolves, numeral, as-it-is, settled, Passes, no-more, passes, LeavesOne, left-first, at-most-one, State, Matches, stays-dead, stays-spent, compares, calls, calls-out, negates, picks, both-sides, left-side, right-side}
+use Rattle.meaning.specs.Matching.{Argument, Settles, number, known, chosen, Resolves, numeral, as-it-is}
+use Rattle.meaning.specs.Matching.{settled, Passes, no-more, passes, LeavesOne, left-first, at-most-one}
+use Rattle.meaning.specs.Matching.{State, Matches, stays-dead, stays-spent, compares, calls, calls-out}
+use Rattle.meaning.specs.Matching.{negates, picks, both-sides, left-side, right-side}
 use Rattle.meaning.specs.MatchingLaws.{Matches-part, Matches-differ}
 use Rattle.meaning.proofs.Soundness.{Held}
 use Rattle.meaning.proofs.Forks.{Fork, same, apart, matches-fork}
@@ -36,12 +39,15 @@ settles-within number = none
 settles-within (known V) = none
 settles-within (chosen k V n h) = one h none
 
-resolves-within : {e : List Argument} {S P : Marks} {r : Term} {t : Trace} {a : Argument} → Resolves e S r t P a → Within t
+resolves-within :
+    {e : List Argument} {S P : Marks} {r : Term} {t : Trace} {a : Argument} → Resolves e S r t P a
+    → Within t
 resolves-within numeral = none
 resolves-within as-it-is = none
 resolves-within (settled s) = settles-within s
 
-passes-within : {e d : List Argument} {S P : Marks} {ts : List Term} {t : Trace} → Passes e S ts t P d → Within t
+passes-within :
+    {e d : List Argument} {S P : Marks} {ts : List Term} {t : Trace} → Passes e S ts t P d → Within t
 passes-within no-more = none
 passes-within (passes s r) = within-join (resolves-within s) (passes-within r)
 
@@ -50,10 +56,13 @@ leaves-within (left-first x y s) = settles-within s
 leaves-within (at-most-one n) = none
 
 module _ (rules : List Rule) where
-  pub matches-within : {e : List Argument} {F : Formula} {b : Bool} {i o : State} {t : Trace} → Matches rules e F b i t o → Within t
+  pub matches-within :
+      {e : List Argument} {F : Formula} {b : Bool} {i o : State} {t : Trace} → Matches rules e F b i t o
+      → Within t
   matches-within stays-dead = none
   matches-within stays-spent = none
-  matches-within (compares p q w z) = within-join (resolves-within p) (within-join (resolves-within q) (leaves-within w))
+  matches-within (compares p q w z) =
+      within-join (resolves-within p) (within-join (resolves-within q) (leaves-within w))
   matches-within (calls p q) = within-join (passes-within p) (matches-within q)
   matches-within (calls-out p) = passes-within p
   matches-within (negates p) = matches-within p

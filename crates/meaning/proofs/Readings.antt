@@ -10,7 +10,10 @@ use borrow.Author.Tests.{clash}
 use Rattle.formula.specs.declared.Join.{Join}
 use Rattle.formula.specs.Trees.{Formula, compare, call, negate, pick, join, Rule, Sheet}
 use Rattle.meaning.specs.Terms.{ranges-of, rules-of, mark-line, body, value, wants}
-use Rattle.meaning.specs.Reading.{Answer, said, ran-out, left, turned, Reads, tells, called, uncalled, turns, picked, left-out, left-only, right-too, calls-made, ranged, Verdict, allowed, not-allowed, spent, verdict, Checks, out-of-range, in-range, Allowed}
+use Rattle.meaning.specs.Reading.{Answer, said, ran-out, left, turned, Reads, tells, called, uncalled}
+use Rattle.meaning.specs.Reading.{turns, picked, left-out, left-only, right-too, calls-made, ranged}
+use Rattle.meaning.specs.Reading.{Verdict, allowed, not-allowed, spent, verdict, Checks, out-of-range}
+use Rattle.meaning.specs.Reading.{in-range, Allowed}
 use Rattle.meaning.specs.ReadingLaws.{Formulas-read, Calls-spend, Checking, Checkings}
 
 -- Answers
@@ -86,10 +89,14 @@ module _ (rules : List Rule) (m : List ℕ) where
   abbrev Read : ℕ → Formula → Type 0
   Read n F = (e : List ℕ) → (a : Answer) × Reads rules m e F n a
 
-  join-read : (n : ℕ) (j : Join) (v w : ℕ) (F G : Formula) → Read n F → ((k : ℕ) → k ≤ n → Read k G) → Read n (join j v w F G)
+  join-read :
+      (n : ℕ) (j : Join) (v w : ℕ) (F G : Formula) → Read n F → ((k : ℕ) → k ≤ n → Read k G)
+      → Read n (join j v w F G)
   join-read n j v w F G first second e = let r = first e in go (r .0) (r .1)
     where
-      side : (b : Bool) (k : ℕ) → Reads rules m e F n (said b k) → Dec (b ≡ wants j) → (a : Answer) × Reads rules m e (join j v w F G) n a
+      side :
+          (b : Bool) (k : ℕ) → Reads rules m e F n (said b k) → Dec (b ≡ wants j)
+          → (a : Answer) × Reads rules m e (join j v w F G) n a
       side b k r (yes p) =
           let h = calls-spend rules m r in
           let q = second k (omega arith) e in
@@ -103,10 +110,12 @@ module _ (rules : List Rule) (m : List ℕ) where
   step : (n : ℕ) → ((k : ℕ) → k < n → (F : Formula) → Read k F) → (F : Formula) (k : ℕ) → k ≤ n → Read k F
   step n ih (compare l c r) k h = λ e. (_, tells)
   step n ih (call r ts) zero h = λ e. (ran-out, uncalled)
-  step n ih (call r ts) (suc k) h = λ e. (let q = ih k h (body rules r) (map (value m e) ts) in (q .0, called (q .1)))
+  step n ih (call r ts) (suc k) h =
+      λ e. (let q = ih k h (body rules r) (map (value m e) ts) in (q .0, called (q .1)))
   step n ih (negate F) k h = λ e. (let q = step n ih F k h e in (turned (q .0), turns (q .1)))
   step n ih (pick x F) k h = λ e. (let q = step n ih F k h e in (q .0, picked (q .1)))
-  step n ih (join j v w F G) k h = join-read k j v w F G (step n ih F k h) (λ i g. step n ih G i (omega arith))
+  step n ih (join j v w F G) k h =
+      join-read k j v w F G (step n ih F k h) (λ i g. step n ih G i (omega arith))
 
   some-answer : (n : ℕ) (F : Formula) (k : ℕ) → k ≤ n → Read k F
   some-answer zero F k h = step zero (λ k g F. absurd (not-suc-le-zero g)) F k h
@@ -145,7 +154,8 @@ module _ (rules : List Rule) (m : List ℕ) where
   one-more (called r) h = called (one-more r h)
   one-more uncalled h = absurd (h refl)
   one-more {e} {n} (turns {F = F} {a = a} r) h =
-      subst (λ (c : Answer). Reads rules m e (negate F) (suc n) c) (raised-turned a) (turns (one-more r (turned-out a h)))
+      subst (λ (c : Answer). Reads rules m e (negate F) (suc n) c) (raised-turned a)
+      (turns (one-more r (turned-out a h)))
   one-more (picked r) h = picked (one-more r h)
   one-more (left-out r) h = absurd (h refl)
   one-more (left-only p r) h = left-only p (one-more r h)
@@ -172,7 +182,8 @@ module _ (s : Sheet) (m : List ℕ) where
           (verdict (q .0), calls-made (q .1), in-range p (q .1))
       go false p = (not-allowed, 0, out-of-range p)
 
-  one-check : {fuel : ℕ} {v w : Verdict} {c d : ℕ} → Checks s m fuel v c → Checks s m fuel w d → (v ≡ w) × (c ≡ d)
+  one-check :
+      {fuel : ℕ} {v w : Verdict} {c d : ℕ} → Checks s m fuel v c → Checks s m fuel w d → (v ≡ w) × (c ≡ d)
   one-check (out-of-range p) (out-of-range q) = (refl, refl)
   one-check (out-of-range p) (in-range q r) = absurd (clash (sym p ∙ q))
   one-check (in-range q r) (out-of-range p) = absurd (clash (sym p ∙ q))
@@ -204,8 +215,10 @@ module _ (s : Sheet) (m : List ℕ) where
       let e : calls-made q ≡ calls-made r = omega (arith, left-raised a said) in
       subst₂ (λ (v : Verdict) (c : ℕ). Checks s m (suc fuel) v c) (verdict-raised a) e (in-range p q)
 
-  checks-more : (d : ℕ) {fuel : ℕ} {v : Verdict} {c : ℕ} → v ≢ spent → Checks s m fuel v c → Checks s m (d + fuel) v c
-  checks-more zero {fuel} {v} {c} h x = let e : fuel ≡ 0 + fuel = omega arith in subst (λ (n : ℕ). Checks s m n v c) e x
+  checks-more :
+      (d : ℕ) {fuel : ℕ} {v : Verdict} {c : ℕ} → v ≢ spent → Checks s m fuel v c → Checks s m (d + fuel) v c
+  checks-more zero {fuel} {v} {c} h x =
+      let e : fuel ≡ 0 + fuel = omega arith in subst (λ (n : ℕ). Checks s m n v c) e x
   checks-more (suc d) {fuel} {v} {c} h x =
       let e : suc (d + fuel) ≡ suc d + fuel = omega arith in
       subst (λ (n : ℕ). Checks s m n v c) e (check-more h (checks-more d h x))
@@ -218,7 +231,9 @@ checkings =
       one = λ m fuel v w c d x y. one-check s m x y;
       few = λ m fuel v c x. few-calls s m x;
       all-spent = λ m fuel c x. all-spent s m x refl;
-      more = λ m fuel more v c h g x. (let e : (more - fuel) + fuel ≡ more = omega arith in subst (λ (n : ℕ). Checks s m n v c) e (checks-more s m (more - fuel) h x));
+      more =
+          λ m fuel more v c h g x. (let e : (more - fuel) + fuel ≡ more = omega arith in
+          subst (λ (n : ℕ). Checks s m n v c) e (checks-more s m (more - fuel) h x));
     }
 
 -- Allowed marks
@@ -234,7 +249,9 @@ module _ {s : Sheet} {fuel : ℕ} {m : List ℕ} where
   pub allowed-reads : Allowed s fuel m → ReadsTrue s fuel m
   allowed-reads x = go (x .1) refl
     where
-      by-answer : (a : Answer) → Reads (rules-of s) m [] (mark-line s) fuel a → verdict a ≡ allowed → (k : ℕ) × Reads (rules-of s) m [] (mark-line s) fuel (said true k)
+      by-answer :
+          (a : Answer) → Reads (rules-of s) m [] (mark-line s) fuel a → verdict a ≡ allowed
+          → (k : ℕ) × Reads (rules-of s) m [] (mark-line s) fuel (said true k)
       by-answer (said true k) r h = (k, r)
       by-answer (said false k) r h = absurd (let z : _≡_ {A = ℕ} 0 1 = cc in omega arith)
       by-answer ran-out r h = absurd (let z : _≡_ {A = ℕ} 0 1 = cc in omega arith)

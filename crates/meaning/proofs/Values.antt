@@ -34,7 +34,9 @@ in-index (x ∷ xs) v (inr i) =
     let r = in-index xs v i in
     (suc (r .0), omega arith, r .2)
 
-pub same-index : (vs : List ℕ) → Ascending vs → (k j : ℕ) → k < length vs → j < length vs → getD vs k 0 ≡ getD vs j 0 → k ≡ j
+pub same-index :
+    (vs : List ℕ) → Ascending vs → (k j : ℕ) → k < length vs → j < length vs → getD vs k 0 ≡ getD vs j 0
+    → k ≡ j
 same-index [] a k j h g p = absurd (not-suc-le-zero h)
 same-index (x ∷ xs) a zero zero h g p = refl
 same-index (x ∷ xs) a zero (suc j) h g p =
@@ -43,10 +45,13 @@ same-index (x ∷ xs) a zero (suc j) h g p =
 same-index (x ∷ xs) a (suc k) zero h g p =
     let l : x < getD xs k 0 = a .0 (getD xs k 0) (in-getD xs k (le-of-suc-le-suc h)) in
     omega arith
-same-index (x ∷ xs) a (suc k) (suc j) h g p = ap suc (same-index xs (a .1) k j (le-of-suc-le-suc h) (le-of-suc-le-suc g) p)
+same-index (x ∷ xs) a (suc k) (suc j) h g p =
+    ap suc (same-index xs (a .1) k j (le-of-suc-le-suc h) (le-of-suc-le-suc g) p)
 
 -- two ascending lists with the same members
-least : (x y : ℕ) (xs ys : List ℕ) → Ascending (x ∷ xs) → Ascending (y ∷ ys) → In x (y ∷ ys) → In y (x ∷ xs) → x ≡ y
+least :
+    (x y : ℕ) (xs ys : List ℕ) → Ascending (x ∷ xs) → Ascending (y ∷ ys) → In x (y ∷ ys) → In y (x ∷ xs)
+    → x ≡ y
 least x y xs ys a b (inl p) j = p
 least x y xs ys a b (inr i) (inl q) = sym q
 least x y xs ys a b (inr i) (inr j) =
@@ -60,14 +65,17 @@ past x y xs ys p a v i (inl q) =
     absurd (let z : ⊥ = omega arith in z)
 past x y xs ys p a v i (inr j) = j
 
-pub one-list : (vs ws : List ℕ) → Ascending vs → Ascending ws → ((v : ℕ) → In v vs → In v ws) → ((v : ℕ) → In v ws → In v vs) → vs ≡ ws
+pub one-list :
+    (vs ws : List ℕ) → Ascending vs → Ascending ws → ((v : ℕ) → In v vs → In v ws)
+    → ((v : ℕ) → In v ws → In v vs) → vs ≡ ws
 one-list [] [] a b f g = refl
 one-list [] (y ∷ ys) a b f g = absurd (g y (inl refl))
 one-list (x ∷ xs) [] a b f g = absurd (f x (inl refl))
 one-list (x ∷ xs) (y ∷ ys) a b f g =
     let p : x ≡ y = least x y xs ys a b (f x (inl refl)) (g y (inl refl)) in
     ap₂ {C = List ℕ} _∷_ p
-    (one-list xs ys (a .1) (b .1) (λ v i. past x y xs ys p a v i (f v (inr i))) (λ v i. past y x ys xs (sym p) b v i (g v (inr i))))
+    (one-list xs ys (a .1) (b .1) (λ v i. past x y xs ys p a v i (f v (inr i)))
+    (λ v i. past y x ys xs (sym p) b v i (g v (inr i))))
 
 part : (S : Marks) (f : ℕ) (vs ws : List ℕ) → Values S f vs → Values S f ws → (v : ℕ) → In v vs → In v ws
 part S f vs ws V W v i = go (in-dec v ws)
@@ -77,7 +85,8 @@ part S f vs ws V W v i = go (in-dec v ws)
     go (no n) = absurd (V .only v i (λ m h e. n (in-cast ws _ v e (W .all m h))))
 
 pub values-one : (S : Marks) (f : ℕ) (vs ws : List ℕ) → Values S f vs → Values S f ws → vs ≡ ws
-values-one S f vs ws V W = one-list vs ws (V .ascending) (W .ascending) (part S f vs ws V W) (part S f ws vs W V)
+values-one S f vs ws V W =
+    one-list vs ws (V .ascending) (W .ascending) (part S f vs ws V W) (part S f ws vs W V)
 
 pub in-one : (v w : ℕ) → In w (v ∷ []) → v ≡ w
 in-one v w (inl p) = sym p

@@ -1,5 +1,5 @@
--- A comparison with at most one unknown field, case by case: two known numbers pass or are a dead end; one unknown
--- field is kept by the sign, mirrored when the field stands on the right.
+-- A comparison with at most one unknown field, case by case: two known numbers pass or are a dead end; one
+-- unknown field is kept by the sign, mirrored when the field stands on the right.
 use Prim.Native.Nat.{ℕ}
 use mathlib.Core.Path.{_≡_}
 use mathlib.Core.Bool.{true, false}

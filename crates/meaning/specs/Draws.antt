@@ -1,6 +1,6 @@
--- Draws: runs whose picks come from the numbers that wait in a source, one number to a choice.
--- Between the branches of a join with weights v : w, the number r takes branch 0 when r modulo v + w is below v;
--- among the c numbers of a field it takes r modulo c. A choice that finds no number left makes the draw dry.
+-- Draws: runs whose picks come from the numbers that wait in a source, one number to a choice. Between the
+-- branches of a join with weights v : w, the number r takes branch 0 when r modulo v + w is below v; among
+-- the c numbers of a field it takes r modulo c. A choice that finds no number left makes the draw dry.
 use Prim.Native.Nat.{ℕ, _+_, _%_}
 use mathlib.Core.Path.{_≡_}
 use mathlib.Core.Bool.{cond}
@@ -17,7 +17,7 @@ abbrev pub drawn : (r : ℕ) → Choice → ℕ
 drawn r (among c) = r % c
 drawn r (branch v w) = cond (ltb (r % (v + w)) v) 0 1
 
--- Takes ns t ls: each choice of the trace t takes the next of the numbers ns and has the pick that it draws; ls are left
+-- Takes ns t ls: each choice of the trace t takes the next of the numbers ns and its pick; ls are left
 pub data Takes : List ℕ → Trace → List ℕ → Type 0 where
   -- no choice takes no number
   takes-none :
@@ -35,7 +35,7 @@ pub data Drawn : Type 0 where
   ran : Outcome → Drawn
   dry : Drawn
 
--- Draws s fuel S ns d t ls: from the numbers ns a draw makes the choices t and comes to d; the numbers ls are left
+-- Draws s fuel S ns d t ls: from the numbers ns a draw makes the choices t and comes to d; ls are left
 pub data Draws (s : Sheet) (fuel : ℕ) (S : Marks) : List ℕ → Drawn → Trace → List ℕ → Type 0 where
   -- each choice of a run finds its number
   draws :
@@ -64,4 +64,8 @@ pub record OneDraw (s : Sheet) (fuel : ℕ) (S : Marks) (ns : List ℕ) : Type 0
 
 -- whatever the numbers, there is exactly one draw
 abbrev pub Draws-one : Type 0
-Draws-one = (s : Sheet) (fuel : ℕ) (S : Marks) → MarksOf (fields-of s) S → (ns : List ℕ) → OneDraw s fuel S ns
+Draws-one =
+    (s : Sheet) (fuel : ℕ) (S : Marks)
+    → MarksOf (fields-of s) S
+    → (ns : List ℕ)
+    → OneDraw s fuel S ns

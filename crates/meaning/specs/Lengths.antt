@@ -1,4 +1,5 @@
--- How long a trace can be: one entry for each field, and one for each join of the mark line and of each call's rule.
+-- How long a trace can be: an entry for each field, and one for each join of the mark line and of the rules
+-- that are called.
 use Prim.Native.Nat.{ℕ, suc, _+_, _*_, _≤_}
 use lib.ListN.{length}
 use Rattle.formula.specs.Trees.{Formula, compare, call, negate, pick, join, Sheet}

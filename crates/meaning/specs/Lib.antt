@@ -13,4 +13,5 @@ pub mod Picks
 pub mod Draws
 pub mod Walks
 pub mod WalkLaws
+pub mod Remaining
 pub mod Samples

@@ -1,7 +1,7 @@
--- Matching: how a formula with a target, true or false, narrows a constraint set, the set of marks still possible.
--- A name is known if it stands for a number or for a field that takes one number in the set. Settling an unknown
--- field is a choice among its numbers. A comparison keeps the marks that pass it, and an empty set is a dead end.
--- A call spends one fuel, and with none left the match is spent.
+-- Matching: how a formula with a target, true or false, narrows a constraint set, the set of marks still
+-- possible. A name is known if it stands for a number or for a field that takes one number in the set.
+-- Settling an unknown field is a choice among its numbers. A comparison keeps the marks that pass it, and
+-- an empty set is a dead end. A call spends one fuel, and with none left the match is spent.
 use Prim.Native.Nat.{ℕ, zero, suc, _<_}
 use mathlib.Core.Path.{_≡_}
 use mathlib.Core.Logic.{_≢_}
@@ -12,7 +12,8 @@ use Rattle.formula.specs.declared.Comparison.{Comparison}
 use Rattle.formula.specs.declared.Comparison.the-variants.{Equal}
 use Rattle.formula.specs.declared.Join.{Join}
 use Rattle.formula.specs.Comparing.{holds}
-use Rattle.formula.specs.Trees.{Name, field, param, Shift, Term, num, bare, moved, Formula, compare, call, negate, pick, join, Rule}
+use Rattle.formula.specs.Trees.{Name, field, param, Shift, Term, num, bare, moved, Formula, compare, call}
+use Rattle.formula.specs.Trees.{negate, pick, join, Rule}
 use Rattle.marks.specs.Sets.{Marks, Empty, kept, Values}
 use Rattle.meaning.specs.Terms.{body, shifted, wants, aimed}
 use Rattle.meaning.specs.Traces.{took, among, branch, Trace}
@@ -32,7 +33,7 @@ abbrev pub argument : (e : List Argument) → Name → Argument
 argument e (field f) = the-field f
 argument e (param p) = getD e p (the-number 0)
 
--- Settles S a t S′ v: settling the argument a in the set S takes the trace t, leaves the set S′ and gives the number v
+-- Settles S a t S′ v: in the set S, narrowing a to one number takes the trace t, leaves the set S′ and gives v
 pub data Settles (S : Marks) : Argument → Trace → Marks → ℕ → Type 0 where
   -- a number makes no choice
   number :
@@ -130,8 +131,8 @@ pub data Matches (rules : List Rule) : List Argument → Formula → Bool → St
   stays-spent :
       {e : List Argument} {F : Formula} {b : Bool}
       → Matches rules e F b spent [] spent
-  -- a comparison settles fields under `+` or `-`, left before right, then the left of two unknown fields, and keeps
-  -- the marks that pass it, or its opposite when the target is false
+  -- a comparison settles fields under `+` or `-`, left before right, then the left of two unknown fields;
+  -- it keeps the marks that pass it, or its opposite when the target is false
   compares :
       {e : List Argument} {l : Term} {c : Comparison} {r : Term} {b : Bool} {n : ℕ}
       {S S₁ S₂ S₃ : Marks} {t t₁ t₂ : Trace} {x y : Argument} {o : State}

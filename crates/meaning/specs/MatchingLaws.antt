@@ -1,5 +1,5 @@
--- The laws of matching one formula: its traces form a tree, each pick is below its width, and the matches that stay
--- live share out exactly the marks that read as the target.
+-- The laws of matching one formula: its traces form a tree, each pick is below its width, and the matches
+-- that stay live share out exactly the marks that read as the target.
 use Prim.Native.Nat.{ℕ}
 use mathlib.Core.Path.{_≡_}
 use mathlib.Core.Logic.{_⊎_}
@@ -14,7 +14,8 @@ use Rattle.meaning.specs.Matching.{Argument, at, State, live, Matches}
 -- two matches from one state are the same, or their traces part at one choice
 abbrev pub Matches-part : Type 0
 Matches-part =
-    (rules : List Rule) (e : List Argument) (F : Formula) (b : Bool) (n : ℕ) (S : Marks) (t u : Trace) (o p : State)
+    (rules : List Rule) (e : List Argument) (F : Formula) (b : Bool) (n : ℕ) (S : Marks)
+    (t u : Trace) (o p : State)
     → Matches rules e F b (live n S) t o
     → Matches rules e F b (live n S) u p
     → ((t ≡ u) × (o ≡ p)) ⊎ Apart t u
@@ -22,7 +23,8 @@ Matches-part =
 -- each pick of a match is below its width
 abbrev pub Matches-within : Type 0
 Matches-within =
-    (rules : List Rule) (e : List Argument) (F : Formula) (b : Bool) (n : ℕ) (S : Marks) (t : Trace) (o : State)
+    (rules : List Rule) (e : List Argument) (F : Formula) (b : Bool) (n : ℕ) (S : Marks)
+    (t : Trace) (o : State)
     → Matches rules e F b (live n S) t o
     → Within t
 
@@ -48,8 +50,8 @@ Matches-complete =
 -- and by no two
 abbrev pub Matches-differ : Type 0
 Matches-differ =
-    (rules : List Rule) (e : List Argument) (F : Formula) (b : Bool) (n k l : ℕ) (S P Q : Marks) (t u : Trace)
-    (m : List ℕ)
+    (rules : List Rule) (e : List Argument) (F : Formula) (b : Bool) (n k l : ℕ) (S P Q : Marks)
+    (t u : Trace) (m : List ℕ)
     → Matches rules e F b (live n S) t (live k P)
     → Matches rules e F b (live n S) u (live l Q)
     → P m ≡ true

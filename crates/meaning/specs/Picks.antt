@@ -1,5 +1,5 @@
--- Runs whose picks are told by a list of numbers, one number to a choice, and pick 0 when the numbers are used up.
--- A walk tells picks by a recorded trace, and a draw by the numbers of a source.
+-- Runs whose picks are told by a list of numbers, one number to a choice, and pick 0 when the numbers are
+-- used up. A walk tells picks by a recorded trace, and a draw by the numbers of a source.
 use Prim.Native.Nat.{ℕ, _<_}
 use mathlib.Core.Path.{_≡_}
 use mathlib.Core.List.{List, [], _∷_}

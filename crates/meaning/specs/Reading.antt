@@ -1,8 +1,7 @@
--- The plain reading of a mark: what the sheet says of it, read from left to right with a fuel.
--- `and` and `or` read the left side first, and the right side only when it decides; `not` turns the result round;
--- `pick` reads as its unit. A call works out its terms, spends one fuel and reads the rule's formula; a call with no
--- fuel left ends the whole reading as spent. A mark is allowed when its numbers lie in their ranges and the formula
--- of the mark line is true; with a number outside its range it is not allowed, and no call is made.
+-- The plain reading of a mark: what the sheet says of it, read from left to right with a fuel. A call works
+-- out its terms, spends one fuel and reads the rule's formula; a call with no fuel left ends the whole reading
+-- as spent. A mark is allowed when its numbers lie in their ranges and the formula of the mark line is true;
+-- with a number outside its range it is not allowed, and no call is made.
 use Prim.Native.Nat.{ℕ, zero, suc, _+_}
 use mathlib.Core.Path.{_≡_}
 use mathlib.Core.Logic.{_≢_}
@@ -13,7 +12,8 @@ use Rattle.formula.specs.declared.Comparison.{Comparison}
 use Rattle.formula.specs.declared.Comparison.the-variants.{AtMost, AtLeast}
 use Rattle.formula.specs.declared.Join.{Join}
 use Rattle.formula.specs.Comparing.{holds}
-use Rattle.formula.specs.Trees.{Name, Term, Formula, compare, call, negate, pick, join, Range, range, Rule, Sheet}
+use Rattle.formula.specs.Trees.{Name, Term, Formula, compare, call, negate, pick, join}
+use Rattle.formula.specs.Trees.{Range, range, Rule, Sheet}
 use Rattle.meaning.specs.Terms.{ranges-of, rules-of, mark-line, body, value, wants}
 
 -- what a formula reads as: true or false, with the fuel that is left, or spent
@@ -31,7 +31,7 @@ abbrev pub turned : Answer → Answer
 turned (said b k) = said (not b) k
 turned ran-out = ran-out
 
--- Reads rules m e F n a: under the mark m and the parameters' numbers e, with fuel n, the formula F reads as a
+-- Reads rules m e F n a: with the mark m, the parameters' numbers e and the fuel n, the formula F reads as a
 pub data Reads (rules : List Rule) (m : List ℕ) : List ℕ → Formula → ℕ → Answer → Type 0 where
   -- a comparison says whether its two numbers compare so
   tells :

@@ -1,5 +1,5 @@
--- The laws of the plain reading. A mark reads in exactly one way; the calls made are the fuel used, and all of it
--- when the reading is spent; and more fuel changes neither a verdict that was not spent nor its number of calls.
+-- The laws of the plain reading. A mark reads in exactly one way; the calls made are the fuel used, all of it
+-- when the reading is spent; more fuel changes neither a verdict that was not spent nor its number of calls.
 use Prim.Native.Nat.{ℕ, _+_, _≤_}
 use mathlib.Core.Path.{_≡_}
 use mathlib.Core.Logic.{_≢_}

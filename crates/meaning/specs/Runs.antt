@@ -1,5 +1,6 @@
--- One run: the starting set is cut to the ranges of the fields, the formula of the mark line is matched with target
--- true, and at the end the unknown fields are settled in field order. Its outcome is a mark, a dead end, or spent.
+-- One run: the starting set is cut to the ranges of the fields, the formula of the mark line is matched
+-- with target true, and at the end the unknown fields are settled in field order. Its outcome is a mark, a
+-- dead end, or spent.
 use Prim.Native.Nat.{ℕ, zero, suc}
 use mathlib.Core.Bool.{true, _&&_}
 use mathlib.Core.List.{List, [], _∷_, _++_}
@@ -41,7 +42,7 @@ pub data Finishes (n : ℕ) : State → Trace → Outcome → Type 0 where
   -- nor does a spent match
   at-spent : Finishes n spent [] spent-run
 
--- the marks of S whose numbers lie in their ranges
+-- the marks of S whose numbers lie in their ranges, as keeping each field's range leaves them
 abbrev pub inside : Marks → List Range → Marks
 inside S rs = λ m. S m && ranged rs 0 m
 

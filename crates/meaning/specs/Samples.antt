@@ -1,4 +1,4 @@
--- Worked examples of the definitions, collected: walks over every mark and over a register, a check, and draws.
+-- Worked examples of the definitions, collected: walks over every mark and over a register, a check, draws.
 use Prim.Native.Nat.{ℕ}
 use mathlib.Core.Path.{_≡_}
 use mathlib.Core.Bool.{Bool, true, false, _&&_, _||_}
@@ -7,7 +7,8 @@ use lib.Dec.{eqb, ltb}
 use lib.ListN.{length}
 use Rattle.formula.specs.declared.Comparison.the-variants.{Equal, Less, AtMost, More, AtLeast}
 use Rattle.formula.specs.declared.Join.the-variants.{And, Or}
-use Rattle.formula.specs.Trees.{field, param, up, down, num, bare, moved, Formula, compare, call, join, range, rule, Sheet, sheet}
+use Rattle.formula.specs.Trees.{field, param, up, down, num, bare, moved, Formula, compare, call, join}
+use Rattle.formula.specs.Trees.{range, rule, Sheet, sheet}
 use Rattle.marks.specs.Sets.{Marks}
 use Rattle.meaning.specs.Reading.{allowed, spent, Checks}
 use Rattle.meaning.specs.Traces.{Trace}

@@ -9,7 +9,8 @@ use Rattle.formula.specs.declared.Comparison.the-variants.{Equal}
 use Rattle.formula.specs.declared.Join.{Join}
 use Rattle.formula.specs.declared.Join.the-variants.{And, Or}
 use Rattle.formula.specs.Comparing.{opposite}
-use Rattle.formula.specs.Trees.{Name, field, param, Shift, up, down, Term, num, bare, moved, Formula, compare, Range, Rule, rule, Sheet, sheet}
+use Rattle.formula.specs.Trees.{Name, field, param, Shift, up, down, Term, num, bare, moved, Formula}
+use Rattle.formula.specs.Trees.{compare, Range, Rule, rule, Sheet, sheet}
 
 -- the ranges of the fields, in field order
 abbrev pub ranges-of : Sheet → List Range

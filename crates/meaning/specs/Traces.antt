@@ -1,5 +1,6 @@
--- Choices and traces. A run makes a choice where a field may take several numbers, and where a join may come true
--- by its left side or by its right. A trace is the run's choices in order, each with its pick, counted from 0.
+-- Choices and traces. A run makes a choice where a field may take several numbers, and where a join may
+-- come true by its left side or by its right. A trace is the run's choices in order, each with its pick,
+-- counted from 0.
 use Prim.Native.Nat.{ℕ, _<_}
 use mathlib.Core.Logic.{_≢_}
 use mathlib.Core.List.{List, [], _∷_}
@@ -24,7 +25,9 @@ Trace = List Entry
 
 -- each pick is below its width
 pub data Within : Trace → Type 0 where
+  -- there is no entry
   none : Within []
+  -- the first, and then the others
   one :
       {k : ℕ} {c : Choice} {t : Trace}
       → k < width c
@@ -33,10 +36,12 @@ pub data Within : Trace → Type 0 where
 
 -- two traces that part: the same entries, and then different picks of the same choice
 pub data Apart : Trace → Trace → Type 0 where
+  -- they part at the first entry
   here :
       {j k : ℕ} {c : Choice} {t u : Trace}
       → j ≢ k
       → Apart (took j c ∷ t) (took k c ∷ u)
+  -- or past an entry that they share
   there :
       {e : Entry} {t u : Trace}
       → Apart t u

@@ -3,11 +3,12 @@
 ghost use Rattle.meaning.specs.ReadingLaws.{Formulas-read, Calls-spend, Checkings};
 ghost use Rattle.meaning.specs.MatchingLaws.{Matches-part, Matches-within, Matches-sound, Matches-complete, Matches-differ};
 ghost use Rattle.meaning.specs.Comparisons.{Comparisons-keep};
-ghost use Rattle.meaning.specs.RunLaws.{Runs-lawful};
+ghost use Rattle.meaning.specs.RunLaws.{Runs-lawful, Ranges-keep};
 ghost use Rattle.meaning.specs.Lengths.{Traces-short};
 ghost use Rattle.meaning.specs.Picks.{Numbers-tell};
 ghost use Rattle.meaning.specs.Draws.{Draws-one};
 ghost use Rattle.meaning.specs.WalkLaws.{Walks-exact, Walks-end};
+ghost use Rattle.meaning.specs.Remaining.{Walks-near};
 ghost use Rattle.meaning.specs.Samples.{Samples};
 
 // A formula reads in exactly one way.
@@ -55,6 +56,11 @@ pub fn comparisons_keep_by_sign()
     ensures { λ _. ⌜ Comparisons-keep ⌝ }
 {}
 
+// A run starts with the marks that keeping each field's range leaves.
+pub fn runs_keep_ranges()
+    ensures { λ _. ⌜ Ranges-keep ⌝ }
+{}
+
 // The marks of the runs are the allowed marks of the starting set, each by one trace.
 pub fn runs_are_lawful()
     ensures { λ _. ⌜ Runs-lawful ⌝ }
@@ -83,6 +89,11 @@ pub fn walks_are_exact()
 // There is exactly one whole walk, and it ends.
 pub fn walks_end()
     ensures { λ _. ⌜ Walks-end ⌝ }
+{}
+
+// Each next run is nearer to the end of the walk.
+pub fn walks_come_nearer()
+    ensures { λ _. ⌜ Walks-near ⌝ }
 {}
 
 // The worked examples hold.

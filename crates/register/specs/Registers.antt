@@ -38,9 +38,9 @@ same (x ∷ xs) (y ∷ ys) = eqb x y && same xs ys
 unfoldable pub is-row : (register : List ℕ) (n : ℕ) → Marks
 is-row register n m = any-below (λ i. same m (row-at register n i)) (length register / n)
 
--- the rows of the register that are marks
-unfoldable pub mark-rows : (register : List ℕ) (n : ℕ) → Marks
-mark-rows register n m = is-row register n m && every-mark n m
+-- the marks that are in both sets
+unfoldable pub both : Marks → Marks → Marks
+both S T m = S m && T m
 
 -- The sets of a register store
 
@@ -52,10 +52,10 @@ numbers-of s = now (s .register)
 abbrev pub width-of : RegisterStore → ℕ
 width-of s = s .allowed .width
 
--- the set that it starts with
+-- the set that it starts with: the rows that are marks
 abbrev pub register-start : RegisterStore → Marks
-register-start s = mark-rows (numbers-of s) (width-of s)
+register-start s = both (is-row (numbers-of s) (width-of s)) (every-mark (width-of s))
 
 -- its current set: the rows of which each number may still stand at its field
-unfoldable pub register-left : RegisterStore → Marks
-register-left s m = is-row (numbers-of s) (width-of s) m && open-left (s .allowed) m
+abbrev pub register-left : RegisterStore → Marks
+register-left s = both (is-row (numbers-of s) (width-of s)) (open-left (s .allowed))

@@ -3,7 +3,8 @@ ghost use Prim.Native.Nat.{_*_, _/_, _+_, _<_};
 ghost use mathlib.Core.Path.{_≡_};
 ghost use lib.ListN.{length};
 ghost use denote.Ref.{now};
-ghost use Rattle.store.specs.Rows.{HasTaken};
+ghost use Rattle.store.specs.Rules.{TellsEmpty};
+ghost use Rattle.store.specs.TakenRows.{HasTaken};
 ghost use Rattle.register.specs.Registers.{HasRows, numbers-of, width-of, row-at, register-start, register-left};
 ghost use Rattle.register.specs.Sounds.{register-sound};
 use formula::Comparison;
@@ -26,10 +27,14 @@ impl<'a> RegisterStore<'a> {
     // an unfinished last row and a row with a number above 1,023 count for nothing.
     pub fn new(sheet: &Sheet, register: &'a [u16]) -> RegisterStore<'a>
         ensures fields { λ r. ⌜ width-of r ≡ now (sheet .entry) .«field_count» ⌝ }
-        ensures starts { λ r. ⌜ HasRows (now (sheet .entry) .«field_count») (now (register .entry)) (register-start r) ⌝ }
+        ensures starts { λ r. ⌜ HasRows (now (sheet .entry) .«field_count») (now (register .entry))
+            (register-start r) ⌝ }
         ensures left { λ r. ⌜ register-left r ≡ register-start r ⌝ }
     {
-        RegisterStore { register, allowed: OpenStore::new(sheet) }
+        RegisterStore {
+            register,
+            allowed: OpenStore::new(sheet),
+        }
     }
 }
 
@@ -50,6 +55,18 @@ impl RegisterStore<'_> {
         let width = self.allowed.fields();
         let from = i * width;
         &self.register[from..from + width]
+    }
+
+    // Whether no row is left.
+    fn none_left(&self) -> bool
+        ensures { λ r. ⌜ TellsEmpty (width-of (now (self .entry))) (register-left (now (self .entry))) r ⌝ }
+    {
+        for i in 0..self.row_count() {
+            if self.allowed.contains(self.row(i)) {
+                return false;
+            }
+        }
+        true
     }
 
     // The numbers that a field takes in the rows that are left.
@@ -92,12 +109,7 @@ pub impl Store for RegisterStore<'_> as RegisterRows {
     }
 
     fn is_empty(&self) -> bool {
-        for i in 0..self.row_count() {
-            if self.allowed.contains(self.row(i)) {
-                return false;
-            }
-        }
-        true
+        self.none_left()
     }
 
     fn count(&self, field: usize) -> usize {

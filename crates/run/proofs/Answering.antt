@@ -35,7 +35,8 @@ widths-long (took k c ∷ t) = ap suc (widths-long t)
 
 written-sets :
     (z : Trail) (t : Trace)
-    → (written z t .picks ≡ sets (z .picks) (z .at) (picks-of t)) × (written z t .widths ≡ sets (z .widths) (z .at) (widths-of t))
+    → (written z t .picks ≡ sets (z .picks) (z .at) (picks-of t)) ×
+        (written z t .widths ≡ sets (z .widths) (z .at) (widths-of t))
 written-sets z [] = (refl, refl)
 written-sets z (took p c ∷ t) = written-sets (put z p (width c)) t
 
@@ -50,7 +51,8 @@ pub written-over :
     (ps ws : List ℕ) (t : Trace)
     → length t ≤ length ps
     → length t ≤ length ws
-    → (written (trail ps ws 0) t .picks ≡ over (picks-of t) ps) × (written (trail ps ws 0) t .widths ≡ over (widths-of t) ws)
+    → (written (trail ps ws 0) t .picks ≡ over (picks-of t) ps) ×
+        (written (trail ps ws 0) t .widths ≡ over (widths-of t) ws)
 written-over ps ws t hp hw =
     let w = written-sets (trail ps ws 0) t in
     let lp : length (picks-of t) ≤ length ps = omega (arith, picks-long t) in
@@ -65,7 +67,8 @@ count (numbers ns) = length ns
 -- past the entries there are none
 past-none : (t : Trace) (e : Noted) (es : List Noted) → Guided (recorded []) t (recorded (e ∷ es)) → ⊥
 past-none [] e es g = let z = ap count g in absurd (omega arith)
-past-none (took k c ∷ t) e es g = past-none t e es (subst (λ x. Guided x t (recorded (e ∷ es))) (g .1 .1) (g .2))
+past-none (took k c ∷ t) e es g = past-none t e es (subst (λ x. Guided x t (recorded (e ∷ es))) (g .1 .1)
+    (g .2))
 
 -- while entries are left, nothing of the lists has changed
 pub same-lists :
@@ -79,7 +82,7 @@ same-lists ps ws k (suc n) (took p c ∷ t) e es g =
     let sp : set ps k p ≡ ps = ap (set ps k) (q .0) ∙ set-getD ps k 0 in
     let sw : set ws k (width c) ≡ ws = ap (set ws k) (sym (q .1)) ∙ set-getD ws k 0 in
     let same : written (trail (set ps k p) (set ws k (width c)) (suc k)) t ≡ written (trail ps ws (suc k)) t =
-      (λ j. written (trail (sp j) (sw j) (suc k)) t) in
+    (λ j. written (trail (sp j) (sw j) (suc k)) t) in
     let r = same-lists ps ws (suc k) n t e es (subst (λ x. Guided x t (recorded (e ∷ es))) (q .3) (g .2)) in
     (ap (λ x. x .picks) same ∙ r .0, ap (λ x. x .widths) same ∙ r .1)
 
@@ -108,9 +111,13 @@ module _ (s : Sheet) (fuel : ℕ) (S : Marks) (B : MarksOf (fields-of s) S) wher
       (z y : Way) → Halt z (Running s fuel S) y
       → (t : Trace) (o : Outcome) (i : Guide) → Run s fuel S t o → Guided (z .guide) t i → ⊥
   halted-none z y h t o i r g =
-      elim (run-part s fuel S B t (h .before ++ took 0 (h .choice) ∷ h .after) o (h .does .0) r (h .does .1)) [
-        inl e ↦ halted-one (z .guide) (y .guide) i (h .before) (h .after) (h .choice) (h .guided) (h .stuck) (subst (λ u. Guided (z .guide) u i) (e .0) g)
-      | inr d ↦ halted-apart (z .guide) (y .guide) i (h .before) (h .after) t (h .choice) (h .guided) (h .stuck) g d ]
+      elim (run-part s fuel S B t (h .before ++ took 0 (h .choice) ∷ h .after) o (h .does .0) r (h .does .1))
+          [
+        | inl e ↦ halted-one (z .guide) (y .guide) i (h .before) (h .after) (h .choice) (h .guided) (h .stuck)
+            (subst (λ u. Guided (z .guide) u i) (e .0) g)
+        | inr d ↦ halted-apart (z .guide) (y .guide) i (h .before) (h .after) t (h .choice) (h .guided)
+            (h .stuck) g d
+      ]
 
   -- nor does one follow all entries where another run leaves some
   early-none :
@@ -121,8 +128,10 @@ module _ (s : Sheet) (fuel : ℕ) (S : Marks) (B : MarksOf (fields-of s) S) wher
   early-none z y a e es k is t o r g =
       let g′ = subst (Guided (z .guide) (k .trace)) is (k .guided) in
       elim (run-part s fuel S B t (k .trace) o a r (k .does)) [
-        inl q ↦ differ (guided-one (z .guide) (recorded []) (recorded (e ∷ es)) (k .trace) (subst (λ u. Guided (z .guide) u (recorded [])) (q .0) g) g′)
-      | inr d ↦ guided-apart (z .guide) (recorded []) (recorded (e ∷ es)) t (k .trace) g g′ d ]
+        | inl q ↦ differ (guided-one (z .guide) (recorded []) (recorded (e ∷ es)) (k .trace)
+            (subst (λ u. Guided (z .guide) u (recorded [])) (q .0) g) g′)
+        | inr d ↦ guided-apart (z .guide) (recorded []) (recorded (e ∷ es)) t (k .trace) g g′ d
+      ]
     where
       differ : recorded [] ≡ recorded (e ∷ es) → ⊥
       differ q = let z = ap count q in omega arith
@@ -157,8 +166,10 @@ pub along-took :
 along-took s fuel S z y (Mark vs) o e k =
     let q : mark (take (fields-of s) vs) ≡ o = cc in
     subst (λ a. Took z (λ t. Run s fuel S t a) y) q k
-along-took s fuel S z y DeadEnd o e k = let q : dead-end ≡ o = cc in subst (λ a. Took z (λ t. Run s fuel S t a) y) q k
-along-took s fuel S z y Spent o e k = let q : spent-run ≡ o = cc in subst (λ a. Took z (λ t. Run s fuel S t a) y) q k
+along-took s fuel S z y DeadEnd o e k = let q : dead-end ≡ o = cc in subst
+    (λ a. Took z (λ t. Run s fuel S t a) y) q k
+along-took s fuel S z y Spent o e k = let q : spent-run ≡ o = cc in subst
+    (λ a. Took z (λ t. Run s fuel S t a) y) q k
 along-took s fuel S z y Halted o e k = let q : _≡_ {A = ℕ} 0 1 = cc in absurd (omega arith)
 
 pub along-halt :
@@ -182,7 +193,8 @@ pub numbers-over : (ns : List ℕ) (c : Choice) → NoPick (numbers ns) c → ns
 numbers-over [] c unfit = refl
 numbers-over (r ∷ ns) c unfit = absurd (unfit _ (numbers ns) (refl, refl))
 
-pub guided-takes : (ns : List ℕ) (t : Trace) (rest : List ℕ) → Guided (numbers ns) t (numbers rest) → Takes ns t rest
+pub guided-takes :
+    (ns : List ℕ) (t : Trace) (rest : List ℕ) → Guided (numbers ns) t (numbers rest) → Takes ns t rest
 guided-takes ns [] rest g = let e : rest ≡ ns = cc in subst (λ q. Takes ns [] q) (sym e) takes-none
 guided-takes [] (took k c ∷ t) rest g = absurd (g .1)
 guided-takes (r ∷ ns) (took k c ∷ t) rest g =

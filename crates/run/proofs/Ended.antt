@@ -43,34 +43,48 @@ module _ (w : ℕ) (z : Way) (S₀ : Marks) where
   end-begun c e = took-none (λ u Q ws p. subst (λ q. Ends 0 q S₀ u Q ws) (sym e) p)
 
   module _ (S : Marks) (y : Way) (i c : ℕ) (vs : List ℕ) (led : Took z (EndLeads w S₀ i (suc c) S vs) y) where
-    pub end-more : (v : ℕ) (P : Marks) (y′ : Way) (vs′ : List ℕ) → Took y (λ t. Settles S (the-field i) t P v) y′ → vs′ ≡ vs ++ v ∷ [] → Took z (EndLeads w S₀ (suc i) c P vs′) y′
+    pub end-more :
+        (v : ℕ) (P : Marks) (y′ : Way) (vs′ : List ℕ)
+        → Took y (λ t. Settles S (the-field i) t P v) y′
+        → vs′ ≡ vs ++ v ∷ []
+        → Took z (EndLeads w S₀ (suc i) c P vs′) y′
     end-more v P y′ vs′ k is =
         took-join (λ t u m s a Q d p.
-          subst (λ q. Ends 0 w S₀ ((t ++ u) ++ a) Q (q ++ d)) (sym is)
-          (subst (λ q. Ends 0 w S₀ ((t ++ u) ++ a) Q q) (sym (append-assoc vs (v ∷ []) d))
-          (subst (λ q. Ends 0 w S₀ q Q (vs ++ v ∷ d)) (sym (append-assoc t u a)) (m (u ++ a) Q (v ∷ d) (ends s p))))) led k
+        subst (λ q. Ends 0 w S₀ ((t ++ u) ++ a) Q (q ++ d)) (sym is)
+        (subst (λ q. Ends 0 w S₀ ((t ++ u) ++ a) Q q) (sym (append-assoc vs (v ∷ []) d))
+        (subst (λ q. Ends 0 w S₀ q Q (vs ++ v ∷ d)) (sym (append-assoc t u a))
+            (m (u ++ a) Q (v ∷ d) (ends s p))))) led k
 
     module _ (C : Counted S) (alive : Empty S → ⊥) where
       on : (v : Trace) → Settling S (the-field i) v → (u : Trace) × Ending i (suc c) S (v ++ u)
       on v m =
-          let q = ends-told first first-fair (suc i) c (m .0) (counted-part S (m .0) C (λ k h. settles-sound (m .2) k h .0)) (arg-alive (m .2) alive) [] in
+          let q = ends-told first first-fair (suc i) c (m .0)
+              (counted-part S (m .0) C (λ k h. settles-sound (m .2) k h .0)) (arg-alive (m .2) alive) [] in
           (q .0, (q .1, m .1 ∷ q .2, ends (m .2) (q .4)))
 
       pub end-fits : Fits z (Ending 0 w S₀) → Fits y (Settling S (the-field i))
-      end-fits h = fits-on {N = Ending i (suc c) S} on (fits-after {N = Ending i (suc c) S} (λ t u m n. (n .0, vs ++ n .1, m u (n .0) (n .1) (n .2))) led h)
+      end-fits h = fits-on {N = Ending i (suc c) S} on
+          (fits-after {N = Ending i (suc c) S} (λ t u m n. (n .0, vs ++ n .1, m u (n .0) (n .1) (n .2))) led
+          h)
 
       pub end-halt : (y′ : Way) → Halt y (Settling S (the-field i)) y′ → Halt z (Ending 0 w S₀) y′
-      end-halt y′ h = halt-after {N = Ending i (suc c) S} (λ t u m n. (n .0, vs ++ n .1, m u (n .0) (n .1) (n .2))) led (halt-on {N = Ending i (suc c) S} on h)
+      end-halt y′ h = halt-after {N = Ending i (suc c) S}
+          (λ t u m n. (n .0, vs ++ n .1, m u (n .0) (n .1) (n .2))) led
+          (halt-on {N = Ending i (suc c) S} on h)
 
-  pub end-done : (S : Marks) (y : Way) (i : ℕ) (vs : List ℕ) → Took z (EndLeads w S₀ i 0 S vs) y → Took z (λ v. Ends 0 w S₀ v S vs) y
-  end-done S y i vs = took-map (λ v m. subst (λ q. Ends 0 w S₀ v S q) (append-nil vs) (subst (λ q. Ends 0 w S₀ q S (vs ++ [])) (append-nil v) (m [] S [] ended)))
+  pub end-done :
+      (S : Marks) (y : Way) (i : ℕ) (vs : List ℕ) → Took z (EndLeads w S₀ i 0 S vs) y
+      → Took z (λ v. Ends 0 w S₀ v S vs) y
+  end-done S y i vs = took-map (λ v m. subst (λ q. Ends 0 w S₀ v S q) (append-nil vs)
+      (subst (λ q. Ends 0 w S₀ q S (vs ++ [])) (append-nil v) (m [] S [] ended)))
 
 -- The beginning
 
 -- the first i ranges, and one more
 take-ranges :
     (rs : List Range) (i : ℕ) → i < length rs
-    → map range-of (take (suc i) rs) ≡ map range-of (take i rs) ++ range (range-at rs i .low) (range-at rs i .high) ∷ []
+    → map range-of (take (suc i) rs) ≡ map range-of (take i rs) ++ range (range-at rs i .low)
+        (range-at rs i .high) ∷ []
 take-ranges [] i h = absurd (omega arith)
 take-ranges (r ∷ rs) zero h = refl
 take-ranges (r ∷ rs) (suc i) h = ap (λ q. range-of r ∷ q) (take-ranges rs i (omega arith))
@@ -87,7 +101,8 @@ four false b c d = refl
 ranged-more :
     (rs : List RangeTree) (low high f : ℕ) (m : List ℕ)
     → ranged (rs ++ range low high ∷ []) f m
-    ≡ (ranged rs f m && (holds AtLeast (getD m (f + length rs) 0) low && holds AtMost (getD m (f + length rs) 0) high))
+    ≡ (ranged rs f m && (holds AtLeast (getD m (f + length rs) 0) low && holds AtMost
+        (getD m (f + length rs) 0) high))
 ranged-more [] low high f m =
     let e : f ≡ f + 0 = omega arith in
     and-true (holds AtLeast (getD m f 0) low && holds AtMost (getD m f 0) high)
@@ -96,14 +111,17 @@ ranged-more (range l h ∷ rs) low high f m =
     let e : suc f + length rs ≡ f + suc (length rs) = omega arith in
     let first = holds AtLeast (getD m f 0) l && holds AtMost (getD m f 0) h in
     ap (λ q. first && q) (ranged-more rs low high (suc f) m)
-    ∙ sym (and-assoc first (ranged rs (suc f) m) (holds AtLeast (getD m (suc f + length rs) 0) low && holds AtMost (getD m (suc f + length rs) 0) high))
-    ∙ ap (λ q. (first && ranged rs (suc f) m) && (holds AtLeast (getD m q 0) low && holds AtMost (getD m q 0) high)) e
+    ∙ sym (and-assoc first (ranged rs (suc f) m) (holds AtLeast (getD m (suc f + length rs) 0) low && holds
+        AtMost (getD m (suc f + length rs) 0) high))
+    ∙ ap (λ q. (first && ranged rs (suc f) m) && (holds AtLeast (getD m q 0) low && holds AtMost (getD m q 0)
+        high)) e
 
 -- what two keeps leave of the marks in the first i ranges
 pub begin-more :
     (B S : Marks) (rs : List Range) (i : ℕ) → i < length rs
     → S ≡ inside B (map range-of (take i rs))
-    → kept (kept S i AtLeast (range-at rs i .low)) i AtMost (range-at rs i .high) ≡ inside B (map range-of (take (suc i) rs))
+    → kept (kept S i AtLeast (range-at rs i .low)) i AtMost (range-at rs i .high) ≡ inside B
+        (map range-of (take (suc i) rs))
 begin-more B S rs i h e =
     let low = range-at rs i .low in
     let high = range-at rs i .high in
@@ -112,10 +130,11 @@ begin-more B S rs i h e =
     let long : 0 + length firsts ≡ i = omega (arith, count) in
     ap (λ Q. kept (kept Q i AtLeast low) i AtMost high) e
     ∙ fun-ext (λ m.
-        four (B m) (ranged firsts 0 m) (holds AtLeast (getD m i 0) low) (holds AtMost (getD m i 0) high)
-        ∙ ap (λ q. B m && (ranged firsts 0 m && (holds AtLeast (getD m q 0) low && holds AtMost (getD m q 0) high))) (sym long)
-        ∙ ap (λ q. B m && q) (sym (ranged-more firsts low high 0 m))
-        ∙ ap (λ q. B m && ranged q 0 m) (sym (take-ranges rs i h)))
+    four (B m) (ranged firsts 0 m) (holds AtLeast (getD m i 0) low) (holds AtMost (getD m i 0) high)
+    ∙ ap (λ q. B m && (ranged firsts 0 m && (holds AtLeast (getD m q 0) low && holds AtMost (getD m q 0)
+        high))) (sym long)
+    ∙ ap (λ q. B m && q) (sym (ranged-more firsts low high 0 m))
+    ∙ ap (λ q. B m && ranged q 0 m) (sym (take-ranges rs i h)))
 
 pub begin-none : (B : Marks) (rs : List Range) → B ≡ inside B (map range-of (take 0 rs))
 begin-none B rs = fun-ext (λ m. sym (and-true (B m)))

@@ -25,7 +25,8 @@ use Rattle.run.proofs.Ways.{took-map, took-none, took-join, halt-on, halt-afte
 use Rattle.run.proofs.Comparing.{first, first-fair}
 
 pub inside-counted : (s : Sheet) (S : Marks) → MarksOf (fields-of s) S → Counted (inside S (ranges-of s))
-inside-counted s S B = counted-part S (inside S (ranges-of s)) (counted (fields-of s) S B) (λ m h. and-left (S m) _ h)
+inside-counted s S B = counted-part S (inside S (ranges-of s)) (counted (fields-of s) S B)
+    (λ m h. and-left (S m) _ h)
 
 module _ (s : Sheet) (fuel : ℕ) (S : Marks) (B : MarksOf (fields-of s) S) where
   pub run-fits :
@@ -38,8 +39,8 @@ module _ (s : Sheet) (fuel : ℕ) (S : Marks) (B : MarksOf (fields-of s) S) wher
   run-fits z e few hp hw =
       record {
         room = λ t r.
-          let l = lengths s fuel S B 16 few t (r .0) (r .1) in
-          record { picks-hold = omega arith; widths-hold = omega arith }
+            let l = lengths s fuel S B 16 few t (r .0) (r .1) in
+            record { picks-hold = omega arith; widths-hold = omega arith };
       }
 
   pub dead-at-once : (z : Way) → Empty (inside S (ranges-of s)) → Took z (λ v. Run s fuel S v dead-end) z
@@ -52,7 +53,8 @@ module _ (s : Sheet) (fuel : ℕ) (S : Marks) (B : MarksOf (fields-of s) S) wher
     on : (v : Trace) → matches v → (u : Trace) × Running s fuel S (v ++ u)
     on v m =
         let rules = rules-of s in
-        let q = finishes-told first first-fair rules (fields-of s) (inside S (ranges-of s)) C (m .0) (matches-alive rules (m .1)) (λ k h. matched-sound rules k (m .1) h .0) [] in
+        let q = finishes-told first first-fair rules (fields-of s) (inside S (ranges-of s)) C (m .0)
+            (matches-alive rules (m .1)) (λ k h. matched-sound rules k (m .1) h .0) [] in
         (q .0, (q .1, runs (some-left alive) (m .1) (q .3)))
 
     pub match-fits : Fits z (Running s fuel S) → Fits z matches
@@ -63,22 +65,30 @@ module _ (s : Sheet) (fuel : ℕ) (S : Marks) (B : MarksOf (fields-of s) S) wher
 
     pub match-dead :
         (y : Way)
-        → Took z (λ v. Matches (rules-of s) [] (mark-line s) true (live fuel (inside S (ranges-of s))) v dead) y
+        → Took z (λ v. Matches (rules-of s) [] (mark-line s) true (live fuel (inside S (ranges-of s))) v dead)
+            y
         → Took z (λ v. Run s fuel S v dead-end) y
-    match-dead y = took-map (λ v m. subst (λ q. Run s fuel S q dead-end) (append-nil v) (runs (some-left alive) m at-dead))
+    match-dead y = took-map (λ v m. subst (λ q. Run s fuel S q dead-end) (append-nil v)
+        (runs (some-left alive) m at-dead))
 
     pub match-spent :
         (y : Way)
-        → Took z (λ v. Matches (rules-of s) [] (mark-line s) true (live fuel (inside S (ranges-of s))) v spent) y
+        → Took z (λ v. Matches (rules-of s) [] (mark-line s) true (live fuel (inside S (ranges-of s))) v
+            spent) y
         → Took z (λ v. Run s fuel S v spent-run) y
-    match-spent y = took-map (λ v m. subst (λ q. Run s fuel S q spent-run) (append-nil v) (runs (some-left alive) m at-spent))
+    match-spent y = took-map (λ v m. subst (λ q. Run s fuel S q spent-run) (append-nil v)
+        (runs (some-left alive) m at-spent))
 
-    module _ (k : ℕ) (P : Marks) (y : Way) (led : Took z (λ v. Matches (rules-of s) [] (mark-line s) true (live fuel (inside S (ranges-of s))) v (live k P)) y) where
+    module _ (k : ℕ) (P : Marks) (y : Way) (led : Took z
+        (λ v. Matches (rules-of s) [] (mark-line s) true (live fuel (inside S (ranges-of s))) v (live k P)) y)
+        where
       pub end-fits : Fits z (Running s fuel S) → Fits y (Ending 0 (fields-of s) P)
-      end-fits h = fits-after {L = Running s fuel S} (λ t u m n. (mark (n .1), runs (some-left alive) m (whole (n .2)))) led h
+      end-fits h = fits-after {L = Running s fuel S}
+          (λ t u m n. (mark (n .1), runs (some-left alive) m (whole (n .2)))) led h
 
       pub end-halt : (y′ : Way) → Halt y (Ending 0 (fields-of s) P) y′ → Halt z (Running s fuel S) y′
-      end-halt y′ h = halt-after {L = Running s fuel S} (λ t u m n. (mark (n .1), runs (some-left alive) m (whole (n .2)))) led h
+      end-halt y′ h = halt-after {L = Running s fuel S}
+          (λ t u m n. (mark (n .1), runs (some-left alive) m (whole (n .2)))) led h
 
       pub end-mark :
           (vs : List ℕ) (Q : Marks) (y′ : Way)

@@ -43,7 +43,8 @@ keeps-kept n S P f c k (Err e) h l m = absurd (h .0 (l, omega arith))
 pub kept-inside : (S P : Marks) (f : ℕ) (c : Comparison) (k : ℕ) → P ≡ kept S f c k → Inside P S
 kept-inside S P f c k e m h = and-parts (S m) (holds c (getD m f 0) k) (subst (λ Q. Q m ≡ true) e h) .0
 
-pub number-done : (w : ℕ) (S : Marks) (n : ℕ) (z : Way) → n < 1024 → some w S ≡ true → Settled w S (Number n) z (Some n) S z
+pub number-done :
+    (w : ℕ) (S : Marks) (n : ℕ) (z : Way) → n < 1024 → some w S ≡ true → Settled w S (Number n) z (Some n) S z
 number-done w S n z h x = record { took = took-none number; small = h; alive = x }
 
 pub one-of : (vs : List ℕ) → length vs ≡ 1 → vs ≡ getD vs 0 0 ∷ []
@@ -71,7 +72,8 @@ module _ (w : ℕ) (S : Marks) (f : ℕ) (sh : MarksOf w S) (inside : f < w) whe
   knows-not h = (values w S f, values-hold, h)
 
   module _ (z : Way) (x : some w S ≡ true) where
-    pub known-done : (r : Option ℕ) → length (values w S f) ≡ 1 → Picks (values w S f) 0 r → Settled w S (Field f) z r S z
+    pub known-done :
+        (r : Option ℕ) → length (values w S f) ≡ 1 → Picks (values w S f) 0 r → Settled w S (Field f) z r S z
     known-done None one p = absurd (omega arith)
     known-done (Some v) one p =
         let xs = values w S f in
@@ -79,11 +81,14 @@ module _ (w : ℕ) (S : Marks) (f : ℕ) (sh : MarksOf w S) (inside : f < w) whe
         (record {
           took = took-none (known (subst (Values S f) (one-of xs one) values-hold));
           small = value-small w S f 0 (p .0);
-          alive = x
+          alive = x;
         })
 
     -- a number of the field is kept, and marks are left
-    pub keeps-some : (k : ℕ) → k < length (values w S f) → some w (kept S f Equal (getD (values w S f) k 0)) ≡ true
+    pub keeps-some :
+        (k : ℕ)
+        → k < length (values w S f)
+        → some w (kept S f Equal (getD (values w S f) k 0)) ≡ true
     keeps-some k l =
         let v = getD (values w S f) k 0 in
         let r = takes-sound w S f v (value-taken w S f v (in-getD (values w S f) k l) .2) in
@@ -99,20 +104,24 @@ module _ (w : ℕ) (S : Marks) (f : ℕ) (sh : MarksOf w S) (inside : f < w) whe
       chosen-done k (Some v) P c p =
           let xs = values w S f in
           subst (λ q. Settled w S (Field f) z (Some q) P y) (sym (p .0))
-          (subst (λ Q. Settled w S (Field f) z (Some (getD xs k 0)) Q y) (sym (p .1 ∙ ap (kept S f Equal) (p .0)))
+          (subst (λ Q. Settled w S (Field f) z (Some (getD xs k 0)) Q y)
+              (sym (p .1 ∙ ap (kept S f Equal) (p .0)))
           (record {
             took =
-              record {
-                trace = took k (among (length xs)) ∷ [];
-                does = chosen k values-hold wide (c .0);
-                guided = (y .guide, c .1, refl);
-                end = c .2
-              };
+                record {
+                  trace = took k (among (length xs)) ∷ [];
+                  does = chosen k values-hold wide (c .0);
+                  guided = (y .guide, c .1, refl);
+                  end = c .2;
+                };
             small = value-small w S f k (c .0);
             alive = keeps-some k (c .0);
           }))
 
-      pub chosen-halted : (P : Marks) → Chosen (among (length (values w S f))) z None y → Settled w S (Field f) z None P y
+      pub chosen-halted :
+          (P : Marks)
+          → Chosen (among (length (values w S f))) z None y
+          → Settled w S (Field f) z None P y
       chosen-halted P c =
           record {
             before = [];
@@ -121,14 +130,16 @@ module _ (w : ℕ) (S : Marks) (f : ℕ) (sh : MarksOf w S) (inside : f < w) whe
             does = (_, _, chosen 0 values-hold wide (some-values x));
             guided = ap (λ q. q .guide) (c .1);
             stuck = c .0;
-            end = ap (λ q. q .trail) (c .1)
+            end = ap (λ q. q .trail) (c .1);
           }
 
     pub one-fits : length (values w S f) ≢ 1 → Fits z (Settling S (the-field f)) → Room 1 (z .trail)
-    one-fits wide fits = fits .room (took 0 (among (length (values w S f))) ∷ []) (_, _, chosen 0 values-hold wide (some-values x))
+    one-fits wide fits = fits .room (took 0 (among (length (values w S f))) ∷ [])
+        (_, _, chosen 0 values-hold wide (some-values x))
 
 module _ (w : ℕ) (S : Marks) (f : ℕ) (sh : MarksOf w S) (inside : f < w) where
-  pub knows-one : (r : Option ℕ) → length (values w S f) ≡ 1 → Picks (values w S f) 0 r → Knows S (the-field f) r
+  pub knows-one :
+      (r : Option ℕ) → length (values w S f) ≡ 1 → Picks (values w S f) 0 r → Knows S (the-field f) r
   knows-one None one p = absurd (omega arith)
   knows-one (Some v) one p =
       let xs = values w S f in

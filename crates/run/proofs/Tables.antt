@@ -59,7 +59,8 @@ terms-okay w k (t ∷ ts) e (suc j) l =
 -- what a sheet keeps of the entry i of line l, for w fields and k parameters
 abbrev pub NodeOkay : Sheet → (w k l i : ℕ) → Node → Type 0
 NodeOkay s w k l i (Compare t c u) = TermOkay w k t × TermOkay w k u
-NodeOkay s w k l i (Call r n ts) = (r < s .«rule_count») × (n ≡ line-at (s .lines) r .params) × TermsOkay w k ts n
+NodeOkay s w k l i (Call r n ts) = (r < s .«rule_count») × (n ≡ line-at (s .lines) r .params) × TermsOkay w k
+    ts n
 NodeOkay s w k l i (Not a) = Within (s .«rule_count») (s .lines) l a
 NodeOkay s w k l i (Pick x a) = NameOkay w k x × Within (s .«rule_count») (s .lines) l a
 NodeOkay s w k l i (Join j v u a b) =
@@ -74,19 +75,24 @@ module _ (s : Sheet) (l i : ℕ) (w : Within (s .«rule_count») (s .lines) l i)
 
   okay-of : (x : Node) → entry-kept (s .«field_count») (s .«rule_count») (s .lines) l i x ≡ true → okay x
   okay-of (Compare t c u) e =
-      let h = both (known-term (s .«field_count») (line-at (s .lines) l .params) t) (known-term (s .«field_count») (line-at (s .lines) l .params) u) e in
+      let h = both (known-term (s .«field_count») (line-at (s .lines) l .params) t)
+          (known-term (s .«field_count») (line-at (s .lines) l .params) u) e in
       (term-okay _ _ t (h .0), term-okay _ _ u (h .1))
   okay-of (Call r n ts) e =
-      let reaches : (r < s .«rule_count») × (n ≡ line-at (s .lines) r .params) × (length ts ≡ 4) = grind (arith, tells, e) in
-      let knows : known-terms (s .«field_count») (line-at (s .lines) l .params) ts ≡ true = grind (arith, tells, e) in
+      let reaches : (r < s .«rule_count») × (n ≡ line-at (s .lines) r .params) × (length ts ≡ 4) = grind
+          (arith, tells, e) in
+      let knows : known-terms (s .«field_count») (line-at (s .lines) l .params) ts ≡ true = grind
+          (arith, tells, e) in
       let few = s .«lines_kept» r (omega (arith, reaches .0)) .0 in
-      (reaches .0, reaches .1, (omega (arith, few, reaches .1), λ j h. terms-okay _ _ ts knows j (omega (arith, reaches .2))))
+      (reaches .0, reaches .1, (omega (arith, few, reaches .1), λ j h. terms-okay _ _ ts knows j
+          (omega (arith, reaches .2))))
   okay-of (Not a) e =
       let h = parts-of (s .«field_count») (s .«rule_count») (s .lines) l i (Not a) e in
       part-within a (h .0) (h .1)
   okay-of (Pick x a) e =
       let h = parts-of (s .«field_count») (s .«rule_count») (s .lines) l i (Pick x a) e in
-      let knows : known-name (s .«field_count») (line-at (s .lines) l .params) x ≡ true = grind (arith, tells, e) in
+      let knows : known-name (s .«field_count») (line-at (s .lines) l .params) x ≡ true = grind
+          (arith, tells, e) in
       (name-okay _ _ x knows, part-within a (h .0) (h .1))
   okay-of (Join j v u a b) e =
       let h = parts-of (s .«field_count») (s .«rule_count») (s .lines) l i (Join j v u a b) e in
@@ -101,11 +107,15 @@ module _ (s : Sheet) (l i : ℕ) (w : Within (s .«rule_count») (s .lines) l i)
 no-line : Line
 no-line = record { params = 0; start = 0; body = 0 }
 
-pub rules-are : (s : Sheet) → rules-of (tree-of s) ≡ map (rule-of (s .nodes)) (take (s .«rule_count») (s .lines))
+pub rules-are :
+    (s : Sheet)
+    → rules-of (tree-of s) ≡ map (rule-of (s .nodes)) (take (s .«rule_count») (s .lines))
 unfolding tree-of
 rules-are s = refl
 
-pub mark-is : (s : Sheet) → mark-line (tree-of s) ≡ formula-at (s .nodes) (line-at (s .lines) (s .«rule_count») .body)
+pub mark-is :
+    (s : Sheet)
+    → mark-line (tree-of s) ≡ formula-at (s .nodes) (line-at (s .lines) (s .«rule_count») .body)
 unfolding tree-of
 mark-is s = refl
 
@@ -118,16 +128,19 @@ fields-are s =
     ap length (ranges-are s) ∙ length-map (take (s .«field_count») (s .ranges)) range-of
     ∙ length-take-le (s .«field_count») (s .ranges) (omega (arith, s .long, s .«some_fields»))
 
-pub body-is : (s : Sheet) (r : ℕ) → r < s .«rule_count» → body (rules-of (tree-of s)) r ≡ formula-at (s .nodes) (line-at (s .lines) r .body)
+pub body-is :
+    (s : Sheet) (r : ℕ)
+    → r < s .«rule_count»
+    → body (rules-of (tree-of s)) r ≡ formula-at (s .nodes) (line-at (s .lines) r .body)
 unfolding no-line
 body-is s r h =
     let long : s .«rule_count» ≤ length (s .lines) = omega (arith, s .long, s .«few_rules») in
     let none : Rule = rule 0 (compare (num 0) Equal (num 1)) in
     ap (λ q. body q r) (rules-are s)
     ∙ ap formula-of
-      (getD-map (rule-of (s .nodes)) (take (s .«rule_count») (s .lines)) r no-line none
-       (subst (λ k. r < k) (sym (length-take-le (s .«rule_count») (s .lines) long)) h)
-       ∙ ap (rule-of (s .nodes)) (getD-take (s .«rule_count») (s .lines) r no-line h))
+    (getD-map (rule-of (s .nodes)) (take (s .«rule_count») (s .lines)) r no-line none
+    (subst (λ k. r < k) (sym (length-take-le (s .«rule_count») (s .lines) long)) h)
+    ∙ ap (rule-of (s .nodes)) (getD-take (s .«rule_count») (s .lines) r no-line h))
 
 -- the two counts of joins agree
 pub joins-same : (F : Formula) → joins F ≡ joins-kept F
@@ -137,10 +150,17 @@ joins-same (negate F) = joins-same F
 joins-same (pick x F) = joins-same F
 joins-same (join j v w F G) = let a = joins-same F in let b = joins-same G in omega arith
 
-pub line-joins : (s : Sheet) (l : ℕ) → l ≤ s .«rule_count» → joins (formula-at (s .nodes) (line-at (s .lines) l .body)) ≤ 16
-line-joins s l h = let e = joins-same (formula-at (s .nodes) (line-at (s .lines) l .body)) in omega (arith, s .«few_joins» l h)
+pub line-joins :
+    (s : Sheet) (l : ℕ)
+    → l ≤ s .«rule_count»
+    → joins (formula-at (s .nodes) (line-at (s .lines) l .body)) ≤ 16
+line-joins s l h = let e = joins-same (formula-at (s .nodes) (line-at (s .lines) l .body)) in omega
+    (arith, s .«few_joins» l h)
 
-joins-in : (rules : List Rule) (r : ℕ) → ((i : ℕ) → i < length rules → joins (body rules i) ≤ 16) → joins (body rules r) ≤ 16
+joins-in :
+    (rules : List Rule) (r : ℕ)
+    → ((i : ℕ) → i < length rules → joins (body rules i) ≤ 16)
+    → joins (body rules r) ≤ 16
 joins-in [] r h = omega arith
 joins-in (x ∷ rules) zero h = h 0 (omega arith)
 joins-in (x ∷ rules) (suc r) h = joins-in rules r (λ i l. h (suc i) (omega arith))
@@ -149,27 +169,33 @@ pub body-joins : (s : Sheet) (r : ℕ) → joins (body (rules-of (tree-of s)) r)
 body-joins s r =
     let long : s .«rule_count» ≤ length (s .lines) = omega (arith, s .long, s .«few_rules») in
     let many : length (rules-of (tree-of s)) ≡ s .«rule_count» =
-      ap length (rules-are s) ∙ length-map (take (s .«rule_count») (s .lines)) (rule-of (s .nodes)) ∙ length-take-le (s .«rule_count») (s .lines) long in
+    ap length (rules-are s) ∙ length-map (take (s .«rule_count») (s .lines)) (rule-of (s .nodes)) ∙
+        length-take-le (s .«rule_count») (s .lines) long in
     joins-in (rules-of (tree-of s)) r (λ i l.
-      let less : i < s .«rule_count» = omega (arith, many) in
-      subst (λ F. joins F ≤ 16) (sym (body-is s i less)) (line-joins s i (omega (arith, less))))
+    let less : i < s .«rule_count» = omega (arith, many) in
+    subst (λ F. joins F ≤ 16) (sym (body-is s i less)) (line-joins s i (omega (arith, less))))
 
 size-in : (rules : List Rule) (r : ℕ) → r < length rules → size (body rules r) ≤ sizes-of rules
 size-in [] r h = absurd (omega arith)
 size-in (rule n F ∷ rules) zero h = omega arith
 size-in (rule n F ∷ rules) (suc r) h = let k = size-in rules r (omega arith) in omega arith
 
-pub body-size : (s : Sheet) (r : ℕ) → r < s .«rule_count» → size (formula-at (s .nodes) (line-at (s .lines) r .body)) ≤ sizes-of (rules-of (tree-of s))
+pub body-size :
+    (s : Sheet) (r : ℕ)
+    → r < s .«rule_count»
+    → size (formula-at (s .nodes) (line-at (s .lines) r .body)) ≤ sizes-of (rules-of (tree-of s))
 body-size s r h =
     let long : s .«rule_count» ≤ length (s .lines) = omega (arith, s .long, s .«few_rules») in
     let many : length (rules-of (tree-of s)) ≡ s .«rule_count» =
-      ap length (rules-are s) ∙ length-map (take (s .«rule_count») (s .lines)) (rule-of (s .nodes)) ∙ length-take-le (s .«rule_count») (s .lines) long in
-    subst (λ F. size F ≤ sizes-of (rules-of (tree-of s))) (body-is s r h) (size-in (rules-of (tree-of s)) r (omega (arith, many)))
+    ap length (rules-are s) ∙ length-map (take (s .«rule_count») (s .lines)) (rule-of (s .nodes)) ∙
+        length-take-le (s .«rule_count») (s .lines) long in
+    subst (λ F. size F ≤ sizes-of (rules-of (tree-of s))) (body-is s r h)
+        (size-in (rules-of (tree-of s)) r (omega (arith, many)))
 
 -- the mark line and the rules have few joins
 pub few-joins : (s : Sheet) → FewJoins (tree-of s) 16
 few-joins s =
     record {
       marked = subst (λ G. joins G ≤ 16) (sym (mark-is s)) (line-joins s (s .«rule_count») (omega arith));
-      ruled = body-joins s
+      ruled = body-joins s;
     }

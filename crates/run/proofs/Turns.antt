@@ -36,7 +36,9 @@ use Rattle.run.specs.declared.goal.Frame.{Frame}
 use Rattle.run.specs.declared.turn.Depth.{Depth}
 use Rattle.run.specs.Frames.{arguments-of, FrameOkay}
 use Rattle.run.specs.Ways.{Way, Took}
-use Rattle.run.specs.Goals.{no-goal, no-frame, goal-of, pending, Spot, spot, stack, Stood, Good, Fit, mass, weight, Leads, Moves}
+use Rattle.run.specs.declared.turn.Turn.{Turn}
+use Rattle.run.specs.declared.turn.Turn.the-variants.{Moved, Dead, Spent, Halted}
+use Rattle.run.specs.Goals.{no-goal, no-frame, goal-of, pending, Spot, spot, stack, Stood, Good, Fit, mass, weight, Leads, Moves, Turned, Entered}
 use Rattle.run.proofs.Comparing.{first, first-fair}
 use Rattle.run.proofs.Tables.{NodeOkay, entry-okay, line-joins, body-size}
 
@@ -62,7 +64,8 @@ module _ (s : Sheet) where
       (gs : List Goal) (fs : List Frame) (i : ℕ) (g : Goal) → i < length gs
       → pending s (set gs i g) fs (i + 1) ≡ goal-of s fs g ∷ pending s gs fs i
   pending-push gs fs i g h =
-      rw add-one (λ j. goal-of s fs (getD-set-same gs i g no-goal h j) ∷ pending-past gs fs i g i (omega arith) j)
+      rw add-one (λ j. goal-of s fs (getD-set-same gs i g no-goal h j) ∷ pending-past gs fs i g i
+          (omega arith) j)
 
   pub pending-frame :
       (gs : List Goal) (fs : List Frame) (f : ℕ) (x : Frame) (n : ℕ)
@@ -73,8 +76,9 @@ module _ (s : Sheet) where
       let g = getD gs n no-goal in
       let ne : g .frame ≢ f = omega (arith, h n (omega arith)) in
       (λ j.
-        goal (arguments-of (getD-set-other fs f (g .frame) x no-frame ne j)) (formula-at (s .nodes) (g .formula)) (g .target)
-        ∷ pending-frame gs fs f x n (λ i l. h i (omega arith)) j)
+      goal (arguments-of (getD-set-other fs f (g .frame) x no-frame ne j))
+          (formula-at (s .nodes) (g .formula)) (g .target)
+      ∷ pending-frame gs fs f x n (λ i l. h i (omega arith)) j)
 
   pub pending-length : (gs : List Goal) (fs : List Frame) (n : ℕ) → length (pending s gs fs n) ≡ n
   pending-length gs fs zero = refl
@@ -100,17 +104,21 @@ framed-all P gs n g l p h i b =
     (subst P (sym (getD-set-same gs n g no-frame l)) p) i b
 
 -- a goal stands as it did when a frame is added
-stood-more : (s : Sheet) (fs : List Frame) (f : ℕ) (x : Frame) (g : Goal) → Stood s fs f g → Stood s (set fs f x) (f + 1) g
+stood-more :
+    (s : Sheet) (fs : List Frame) (f : ℕ) (x : Frame) (g : Goal)
+    → Stood s fs f g
+    → Stood s (set fs f x) (f + 1) g
 stood-more s fs f x g h =
     let ne : g .frame ≢ f = omega (arith, h .frame) in
     record {
       line = h .line;
       within = h .within;
       frame = omega (arith, h .frame);
-      count = ap (λ q. q .count) (getD-set-other fs f (g .frame) x no-frame ne) ∙ h .count
+      count = ap (λ q. q .count) (getD-set-other fs f (g .frame) x no-frame ne) ∙ h .count;
     }
 
-module _ {s : Sheet} {gs : List Goal} {fs : List Frame} {n f u : ℕ} (h : Good s (spot gs fs (depth n f u))) where
+module _ {s : Sheet} {gs : List Goal} {fs : List Frame} {n f u : ℕ} (h : Good s (spot gs fs (depth n f u)))
+    where
   pub good-pop : Good s (spot gs fs (depth (n - 1) f u))
   good-pop =
       record {
@@ -118,10 +126,14 @@ module _ {s : Sheet} {gs : List Goal} {fs : List Frame} {n f u : ℕ} (h : Good 
         frames-hold = h .frames-hold;
         few = h .few;
         stood = λ i b. h .stood i (omega arith);
-        okay = h .okay
+        okay = h .okay;
       }
 
-  pub good-push : (g : Goal) → n < length gs → Stood s fs f g → Good s (spot (set gs n g) fs (depth (n + 1) f u))
+  pub good-push :
+      (g : Goal)
+      → n < length gs
+      → Stood s fs f g
+      → Good s (spot (set gs n g) fs (depth (n + 1) f u))
   good-push g l a =
       record {
         hold = simp length-set (omega arith);
@@ -131,7 +143,11 @@ module _ {s : Sheet} {gs : List Goal} {fs : List Frame} {n f u : ℕ} (h : Good 
         okay = h .okay;
       }
 
-  pub good-call : (x : Frame) → 0 < u → FrameOkay (s .«field_count») x → Good s (spot gs (set fs f x) (depth n (f + 1) (u - 1)))
+  pub good-call :
+      (x : Frame)
+      → 0 < u
+      → FrameOkay (s .«field_count») x
+      → Good s (spot gs (set fs f x) (depth n (f + 1) (u - 1)))
   good-call x l ok =
       record {
         hold = h .hold;
@@ -147,11 +163,14 @@ pub solves-some :
     → ((m : List ℕ) → Held i m → S m ≡ true) → (v : Trace) × (o : State) × Solves rules gs i v o
 solves-some rules [] S C i a h = ([], i, solved)
 solves-some rules (goal e F b ∷ gs) S C i a h =
-    let r = then-on first first-fair rules (fuel-of i) F (total first first-fair rules (fuel-of i) F) e b S C i (omega arith) a h [] in
-    let q = solves-some rules gs S C (r .1) (matches-alive rules (r .3)) (λ m k. h m (matched-sound rules m (r .3) k .0)) in
+    let r = then-on first first-fair rules (fuel-of i) F (total first first-fair rules (fuel-of i) F) e b S C
+        i (omega arith) a h [] in
+    let q = solves-some rules gs S C (r .1) (matches-alive rules (r .3))
+        (λ m k. h m (matched-sound rules m (r .3) k .0)) in
     (r .0 ++ q .0, q .1, solves (r .3) (q .2))
 
-module _ (s : Sheet) (w : ℕ) (wide : w ≡ s .«field_count») (gs : List Goal) (fs : List Frame) (n f u : ℕ) (fit : Fit s (spot gs fs (depth n f u))) (more : 0 < n) where
+module _ (s : Sheet) (w : ℕ) (wide : w ≡ s .«field_count») (gs : List Goal) (fs : List Frame) (n f u : ℕ)
+    (fit : Fit s (spot gs fs (depth n f u))) (more : 0 < n) where
   abbrev pub top : Goal
   top = getD gs (n - 1) no-goal
 
@@ -168,26 +187,38 @@ module _ (s : Sheet) (w : ℕ) (wide : w ≡ s .«field_count») (gs : List Goal
   stands = fit .0 .stood (n - 1) (omega arith)
 
   -- a part of the same line stands in the same frame
-  pub stands-part : (k : ℕ) (c : Bool) → Within (s .«rule_count») (s .lines) (stands .line) k → Stood s fs f (record { formula = k; target = c; frame = top .frame })
+  pub stands-part :
+      (k : ℕ) (c : Bool)
+      → Within (s .«rule_count») (s .lines) (stands .line) k
+      → Stood s fs f (record { formula = k; target = c; frame = top .frame })
   stands-part k c i = record { line = stands .line; within = i; frame = stands .frame; count = stands .count }
 
-  pub opened : (x : Node) → node-at (s .nodes) (top .formula) ≡ x → pending s gs fs n ≡ goal above (whole (formula-at (s .nodes)) x) (top .target) ∷ rest
+  pub opened :
+      (x : Node)
+      → node-at (s .nodes) (top .formula) ≡ x
+      → pending s gs fs n ≡ goal above (whole (formula-at (s .nodes)) x) (top .target) ∷ rest
   opened x e =
       pop s gs fs n more
       ∙ ap (λ F. goal above F (top .target) ∷ rest)
-        (formula-step s (stands .line) (top .formula) (stands .within) ∙ ap (whole (formula-at (s .nodes))) e)
+      (formula-step s (stands .line) (top .formula) (stands .within) ∙ ap (whole (formula-at (s .nodes))) e)
 
-  pub node-okay : (x : Node) → node-at (s .nodes) (top .formula) ≡ x → NodeOkay s w (framed .count) (stands .line) (top .formula) x
+  pub node-okay :
+      (x : Node)
+      → node-at (s .nodes) (top .formula) ≡ x
+      → NodeOkay s w (framed .count) (stands .line) (top .formula) x
   node-okay x e =
       subst (NodeOkay s w (framed .count) (stands .line) (top .formula)) e
-      (subst (λ k. NodeOkay s k (framed .count) (stands .line) (top .formula) (node-at (s .nodes) (top .formula))) (sym wide)
-      (subst (λ k. NodeOkay s (s .«field_count») k (stands .line) (top .formula) (node-at (s .nodes) (top .formula))) (sym (stands .count))
+      (subst (λ k. NodeOkay s k (framed .count) (stands .line) (top .formula)
+          (node-at (s .nodes) (top .formula))) (sym wide)
+      (subst (λ k. NodeOkay s (s .«field_count») k (stands .line) (top .formula)
+          (node-at (s .nodes) (top .formula))) (sym (stands .count))
       (entry-okay s (stands .line) (top .formula) (stands .within))))
 
   pub frame-okay : FrameOkay w framed
   frame-okay = subst (λ k. FrameOkay k framed) (sym wide) (fit .0 .okay (top .frame) (stands .frame))
 
-  module _ (S P : Marks) (z y : Way) (alive : some w P ≡ true) (F : Formula) (b : Bool) (is : pending s gs fs n ≡ goal above F b ∷ rest) where
+  module _ (S P : Marks) (z y : Way) (alive : some w P ≡ true) (F : Formula) (b : Bool)
+      (is : pending s gs fs n ≡ goal above F b ∷ rest) where
     alive-in : some (s .«field_count») P ≡ true
     alive-in = subst (λ k. some k P ≡ true) wide alive
 
@@ -203,7 +234,7 @@ module _ (s : Sheet) (w : ℕ) (wide : w ≡ s .«field_count») (gs : List Goal
           took = subst (λ q. Took z (Leads (rules-of (tree-of s)) q u S rest u P) y) (sym is) k;
           fit = (good-pop (fit .0), omega (arith, fit .1));
           less = omega arith;
-          alive = alive-in
+          alive = alive-in;
         }
 
     -- another stands in its place
@@ -214,7 +245,8 @@ module _ (s : Sheet) (w : ℕ) (wide : w ≡ s .«field_count») (gs : List Goal
         → size (formula-at (s .nodes) k) < size F
         → gs′ ≡ set gs (n - 1) (record { formula = k; target = c; frame = top .frame })
         → D ≡ depth (n - 1 + 1) f u
-        → Took z (Leads (rules-of (tree-of s)) (goal above F b ∷ rest) u S (goal above (formula-at (s .nodes) k) c ∷ rest) u P) y
+        → Took z (Leads (rules-of (tree-of s)) (goal above F b ∷ rest) u S
+            (goal above (formula-at (s .nodes) k) c ∷ rest) u P) y
         → Moves s (pending s gs fs n) u S z (spot gs′ fs D) P y
     one-put k c gs′ D inner fewer smaller eg ed led =
         let x : Goal = record { formula = k; target = c; frame = top .frame } in
@@ -229,8 +261,9 @@ module _ (s : Sheet) (w : ℕ) (wide : w ≡ s .«field_count») (gs : List Goal
         (subst (λ q. Moves s (pending s gs fs n) u S z (spot (set gs (n - 1) x) fs q) P y) (sym ed)
         (record {
           took =
-            subst (λ q. Took z (Leads (rules-of (tree-of s)) (pending s gs fs n) u S q u P) y) (sym put)
-            (subst (λ q. Took z (Leads (rules-of (tree-of s)) q u S (goal above (formula-at (s .nodes) k) c ∷ rest) u P) y) (sym is) led);
+              subst (λ q. Took z (Leads (rules-of (tree-of s)) (pending s gs fs n) u S q u P) y) (sym put)
+              (subst (λ q. Took z (Leads (rules-of (tree-of s)) q u S
+                  (goal above (formula-at (s .nodes) k) c ∷ rest) u P) y) (sym is) led);
           fit = (good-push (good-pop (fit .0)) x room (stands-part k c inner), omega (arith, fit .1));
           less = omega arith;
           alive = alive-in;
@@ -247,7 +280,8 @@ module _ (s : Sheet) (w : ℕ) (wide : w ≡ s .«field_count») (gs : List Goal
         → D₁ ≡ depth (n - 1 + 1) f u
         → gs′ ≡ set gs₁ (D₁ .goals) (record { formula = k; target = p; frame = top .frame })
         → D ≡ depth (D₁ .goals + 1) (D₁ .frames) (D₁ .fuel)
-        → Took z (Leads (rules-of (tree-of s)) (goal above F b ∷ rest) u S (goal above (formula-at (s .nodes) k) p ∷ goal above (formula-at (s .nodes) c) q ∷ rest) u P) y
+        → Took z (Leads (rules-of (tree-of s)) (goal above F b ∷ rest) u S
+            (goal above (formula-at (s .nodes) k) p ∷ goal above (formula-at (s .nodes) c) q ∷ rest) u P) y
         → Moves s (pending s gs fs n) u S z (spot gs′ fs D) P y
     two-put k c p q gs₁ gs′ D₁ D inner inner′ fewer smaller eg₁ ed₁ eg ed led =
         let a : Goal = record { formula = k; target = p; frame = top .frame } in
@@ -261,18 +295,23 @@ module _ (s : Sheet) (w : ℕ) (wide : w ≡ s .«field_count») (gs : List Goal
         let few : length rest ≡ n - 1 = pending-length s gs fs (n - 1) in
         let room : n - 1 < length gs = omega (arith, fit .0 .hold) in
         let room′ : n - 1 + 1 < length mid = omega (arith, fit .1) in
-        let put = pending-push s mid fs (n - 1 + 1) a room′ ∙ ap (λ v. goal above (formula-at (s .nodes) k) p ∷ v) (pending-push s gs fs (n - 1) d room) in
+        let put = pending-push s mid fs (n - 1 + 1) a room′ ∙ ap
+            (λ v. goal above (formula-at (s .nodes) k) p ∷ v) (pending-push s gs fs (n - 1) d room) in
         let l′ = ap load put in
         let m′ = ap mass put in
         let eg″ : gs′ ≡ set mid (n - 1 + 1) a = eg ∙ (λ j. set (eg₁ j) (ed₁ j .goals) a) in
-        let ed″ : D ≡ depth (n - 1 + 1 + 1) f u = ed ∙ (λ j. depth (ed₁ j .goals + 1) (ed₁ j .frames) (ed₁ j .fuel)) in
+        let ed″ : D ≡ depth (n - 1 + 1 + 1) f u = ed ∙
+            (λ j. depth (ed₁ j .goals + 1) (ed₁ j .frames) (ed₁ j .fuel)) in
         subst (λ q. Moves s (pending s gs fs n) u S z (spot q fs D) P y) (sym eg″)
         (subst (λ q. Moves s (pending s gs fs n) u S z (spot (set mid (n - 1 + 1) a) fs q) P y) (sym ed″)
         (record {
           took =
-            subst (λ q. Took z (Leads (rules-of (tree-of s)) (pending s gs fs n) u S q u P) y) (sym put)
-            (subst (λ v. Took z (Leads (rules-of (tree-of s)) v u S (goal above (formula-at (s .nodes) k) p ∷ goal above (formula-at (s .nodes) c) q ∷ rest) u P) y) (sym is) led);
-          fit = (good-push (good-push (good-pop (fit .0)) d room (stands-part c q inner′)) a room′ (stands-part k p inner), omega (arith, fit .1));
+              subst (λ q. Took z (Leads (rules-of (tree-of s)) (pending s gs fs n) u S q u P) y) (sym put)
+              (subst (λ v. Took z (Leads (rules-of (tree-of s)) v u S
+                  (goal above (formula-at (s .nodes) k) p ∷ goal above (formula-at (s .nodes) c) q ∷ rest) u
+                  P) y) (sym is) led);
+          fit = (good-push (good-push (good-pop (fit .0)) d room (stands-part c q inner′)) a room′
+              (stands-part k p inner), omega (arith, fit .1));
           less = omega arith;
           alive = alive-in;
         }))
@@ -289,16 +328,20 @@ module _ (s : Sheet) (w : ℕ) (wide : w ≡ s .«field_count») (gs : List Goal
         → gs′ ≡ set gs (n - 1) (record { formula = line-at (s .lines) r .body; target = c; frame = f })
         → fs′ ≡ set fs f x
         → D ≡ depth (n - 1 + 1) (f + 1) (u - 1)
-        → Took z (Leads (rules-of (tree-of s)) (goal above F b ∷ rest) u S (goal (arguments-of x) (formula-at (s .nodes) (line-at (s .lines) r .body)) c ∷ rest) (u - 1) P) y
+        → Took z (Leads (rules-of (tree-of s)) (goal above F b ∷ rest) u S
+            (goal (arguments-of x) (formula-at (s .nodes) (line-at (s .lines) r .body)) c ∷ rest) (u - 1) P) y
         → Moves s (pending s gs fs n) u S z (spot gs′ fs′ D) P y
     call-put r c x gs′ fs′ D fueled inner one none ok counted eg ef ed led =
         let a : Goal = record { formula = line-at (s .lines) r .body; target = c; frame = f } in
         let room : n - 1 < length gs = omega (arith, fit .0 .hold) in
         let framed : f < length fs = omega (arith, fit .0 .frames-hold) in
-        let low : (i : ℕ) → i < n - 1 → getD gs i no-goal .frame < f = λ i l. fit .0 .stood i (omega arith) .frame in
+        let low : (i : ℕ) → i < n - 1 → getD gs i no-goal .frame < f = λ i l. fit .0 .stood i (omega arith)
+            .frame in
         let put =
-          pending-push s gs (set fs f x) (n - 1) a room
-          ∙ (λ j. goal (arguments-of (getD-set-same fs f x no-frame framed j)) (formula-at (s .nodes) (line-at (s .lines) r .body)) c ∷ pending-frame s gs fs f x (n - 1) low j) in
+        pending-push s gs (set fs f x) (n - 1) a room
+        ∙ (λ j. goal (arguments-of (getD-set-same fs f x no-frame framed j))
+            (formula-at (s .nodes) (line-at (s .lines) r .body)) c ∷ pending-frame s gs fs f x (n - 1) low j)
+            in
         let l = ap load is in
         let m = ap mass is in
         let l′ = ap load put in
@@ -311,22 +354,27 @@ module _ (s : Sheet) (w : ℕ) (wide : w ≡ s .«field_count») (gs : List Goal
         let back : u ≡ suc (u - 1) = omega arith in
         let prod : u * K ≡ (u - 1) * K + K = ap (λ q. q * K) back ∙ suc-mul (u - 1) K in
         let stood : Stood s (set fs f x) (f + 1) a =
-          record {
-            line = r;
-            within = (omega (arith, inner), line .1, omega arith);
-            frame = omega arith;
-            count = ap (λ q. q .count) (getD-set-same fs f x no-frame framed) ∙ counted
-          } in
+        record {
+          line = r;
+          within = (omega (arith, inner), line .1, omega arith);
+          frame = omega arith;
+          count = ap (λ q. q .count) (getD-set-same fs f x no-frame framed) ∙ counted;
+        } in
         subst (λ q. Moves s (pending s gs fs n) u S z (spot q fs′ D) P y) (sym eg)
         (subst (λ q. Moves s (pending s gs fs n) u S z (spot (set gs (n - 1) a) q D) P y) (sym ef)
         (subst (λ q. Moves s (pending s gs fs n) u S z (spot (set gs (n - 1) a) (set fs f x) q) P y) (sym ed)
         (record {
           took =
-            subst (λ q. Took z (Leads (rules-of (tree-of s)) (pending s gs fs n) u S q (u - 1) P) y) (sym put)
-            (subst (λ v. Took z (Leads (rules-of (tree-of s)) v u S (goal (arguments-of x) (formula-at (s .nodes) (line-at (s .lines) r .body)) c ∷ rest) (u - 1) P) y) (sym is) led);
-          fit =
-            (good-push (good-call (good-pop (fit .0)) x fueled (subst (λ k. FrameOkay k x) wide ok)) a room stood,
-             omega (arith, fit .1));
+              subst (λ q. Took z (Leads (rules-of (tree-of s)) (pending s gs fs n) u S q (u - 1) P) y)
+                  (sym put)
+              (subst (λ v. Took z (Leads (rules-of (tree-of s)) v u S
+                  (goal (arguments-of x) (formula-at (s .nodes) (line-at (s .lines) r .body)) c ∷ rest)
+                  (u - 1) P) y) (sym is) led);
+          fit = (
+            good-push (good-call (good-pop (fit .0)) x fueled (subst (λ k. FrameOkay k x) wide ok)) a room
+                stood,
+            omega (arith, fit .1),
+          );
           less = omega arith;
           alive = alive-in;
         })))
@@ -337,3 +385,17 @@ module _ (s : Sheet) (w : ℕ) (wide : w ≡ s .«field_count») (gs : List Goal
         let w₀ = waiting rest in
         let few : length rest ≡ n - 1 = pending-length s gs fs (n - 1) in
         omega (arith, fit .1)
+
+-- a rule is entered, or no fuel is left
+pub entered :
+    (s : Sheet) (gs : List Goal) (fs : List Frame) (n u : ℕ) (S P : Marks) (z y : Way) (q : Spot) (x : Frame)
+        (k : ℕ) (b : Bool) (p : Spot)
+    → (Entered x k b p Moved q → Turned s (pending s gs fs n) u S z Moved q P y)
+    → (Entered x k b p Spent q → Turned s (pending s gs fs n) u S z Spent q P y)
+    → (r : Turn)
+    → Entered x k b p r q
+    → Turned s (pending s gs fs n) u S z r q P y
+entered s gs fs n u S P z y q x k b p moved out Moved h = moved h
+entered s gs fs n u S P z y q x k b p moved out Spent h = out h
+entered s gs fs n u S P z y q x k b p moved out Dead h = absurd h
+entered s gs fs n u S P z y q x k b p moved out Halted h = absurd h

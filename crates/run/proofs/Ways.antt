@@ -22,7 +22,8 @@ written-picks z (took p c ∷ t) = written-picks (put z p (width c)) t ∙ lengt
 
 pub written-widths : (z : Trail) (t : Trace) → length (written z t .widths) ≡ length (z .widths)
 written-widths z [] = refl
-written-widths z (took p c ∷ t) = written-widths (put z p (width c)) t ∙ length-set (z .widths) (z .at) (width c)
+written-widths z (took p c ∷ t) = written-widths (put z p (width c)) t ∙ length-set (z .widths) (z .at)
+    (width c)
 
 module _ {z : Way} where
   pub took-map : {M N : Trace → Type 0} {y : Way} → ((t : Trace) → M t → N t) → Took z M y → Took z N y
@@ -40,7 +41,8 @@ module _ {z : Way} where
         trace = a .trace ++ b .trace;
         does = f (a .trace) (b .trace) (a .does) (b .does);
         guided = guided-join (z .guide) (y .guide) (x .guide) (a .trace) (b .trace) (a .guided) (b .guided);
-        end = b .end ∙ ap (λ q. written q (b .trace)) (a .end) ∙ sym (written-join (z .trail) (a .trace) (b .trace));
+        end = b .end ∙ ap (λ q. written q (b .trace)) (a .end) ∙ sym
+            (written-join (z .trail) (a .trace) (b .trace));
       }
 
   pub halt-map : {M N : Trace → Type 0} {y : Way} → ((t : Trace) → M t → N t) → Halt z M y → Halt z N y
@@ -52,7 +54,7 @@ module _ {z : Way} where
         does = f _ (h .does);
         guided = h .guided;
         stuck = h .stuck;
-        end = h .end
+        end = h .end;
       }
 
   -- the way goes on
@@ -68,7 +70,7 @@ module _ {z : Way} where
         does = subst N (append-assoc (h .before) (took 0 (h .choice) ∷ h .after) (r .0)) (r .1);
         guided = h .guided;
         stuck = h .stuck;
-        end = h .end
+        end = h .end;
       }
 
   -- a trace was taken before
@@ -80,10 +82,12 @@ module _ {z : Way} where
         before = a .trace ++ h .before;
         choice = h .choice;
         after = h .after;
-        does = subst L (sym (append-assoc (a .trace) (h .before) (took 0 (h .choice) ∷ h .after))) (f _ _ (a .does) (h .does));
+        does = subst L (sym (append-assoc (a .trace) (h .before) (took 0 (h .choice) ∷ h .after)))
+            (f _ _ (a .does) (h .does));
         guided = guided-join (z .guide) (y .guide) (x .guide) (a .trace) (h .before) (a .guided) (h .guided);
         stuck = h .stuck;
-        end = h .end ∙ ap (λ q. written q (h .before)) (a .end) ∙ sym (written-join (z .trail) (a .trace) (h .before));
+        end = h .end ∙ ap (λ q. written q (h .before)) (a .end) ∙ sym
+            (written-join (z .trail) (a .trace) (h .before));
       }
 
 pub fits-on :
@@ -92,10 +96,10 @@ pub fits-on :
 fits-on f h =
     record {
       room = λ t m.
-        let r = f t m in
-        let k = h .room (t ++ r .0) (r .1) in
-        let l = length-append t (r .0) in
-        record { picks-hold = omega (arith, k .picks-hold); widths-hold = omega (arith, k .widths-hold) }
+          let r = f t m in
+          let k = h .room (t ++ r .0) (r .1) in
+          let l = length-append t (r .0) in
+          record { picks-hold = omega (arith, k .picks-hold); widths-hold = omega (arith, k .widths-hold) };
     }
 
 pub fits-after :
@@ -104,11 +108,11 @@ pub fits-after :
 fits-after {z} {y} {M} {N} {L} f a h =
     record {
       room = λ u n.
-        subst (Room (length u)) (sym (a .end))
-        (let k = h .room (a .trace ++ u) (f _ u (a .does) n) in
-        let l = length-append (a .trace) u in
-        let p = written-picks (z .trail) (a .trace) in
-        let w = written-widths (z .trail) (a .trace) in
-        let i = written-at (z .trail) (a .trace) in
-        record { picks-hold = omega (arith, k .picks-hold); widths-hold = omega (arith, k .widths-hold) })
+          subst (Room (length u)) (sym (a .end))
+          (let k = h .room (a .trace ++ u) (f _ u (a .does) n) in
+          let l = length-append (a .trace) u in
+          let p = written-picks (z .trail) (a .trace) in
+          let w = written-widths (z .trail) (a .trace) in
+          let i = written-at (z .trail) (a .trace) in
+          record { picks-hold = omega (arith, k .picks-hold); widths-hold = omega (arith, k .widths-hold) });
     }

@@ -31,11 +31,13 @@ use Rattle.run.proofs.Tables.{mark-is, line-joins}
 use Rattle.run.proofs.Turns.{depth, pending-push}
 
 -- the beginning
-module _ (s : Sheet) (gs : List Goal) (fs : List Frame) (fuel : ℕ) (hg : 16 * (fuel + 1) + 8 ≤ length gs) (hf : fuel + 1 ≤ length fs) (few : fuel ≤ 255) where
+module _ (s : Sheet) (gs : List Goal) (fs : List Frame) (fuel : ℕ) (hg : 16 * (fuel + 1) + 8 ≤ length gs)
+    (hf : fuel + 1 ≤ length fs) (few : fuel ≤ 255) where
   abbrev pub start-goal : Goal
   start-goal = record { formula = line-at (s .lines) (s .«rule_count») .body; target = true; frame = 0 }
 
-  pub first-stack : pending s (set gs 0 start-goal) (set fs 0 blank) 1 ≡ goal [] (mark-line (tree-of s)) true ∷ []
+  pub first-stack : pending s (set gs 0 start-goal) (set fs 0 blank) 1 ≡ goal [] (mark-line (tree-of s)) true
+      ∷ []
   first-stack =
       let a : 0 < length gs = omega arith in
       let b : 0 < length fs = omega arith in
@@ -49,29 +51,33 @@ module _ (s : Sheet) (gs : List Goal) (fs : List Frame) (fuel : ℕ) (hg : 16 * 
       let lg = length-set gs 0 start-goal in
       let lf = length-set fs 0 blank in
       let l = ap load first-stack in
-      let few-joins = subst (λ F. joins F ≤ 16) (sym (mark-is s)) (line-joins s (s .«rule_count») (omega arith)) in
+      let few-joins = subst (λ F. joins F ≤ 16) (sym (mark-is s))
+          (line-joins s (s .«rule_count») (omega arith)) in
       let line = s .«lines_kept» (s .«rule_count») (omega arith) in
       let stood : Stood s (set fs 0 blank) 1 start-goal =
+      record {
+        line = s .«rule_count»;
+        within = (omega arith, line .1, omega arith);
+        frame = omega arith;
+        count = ap (λ q. q .count) (getD-set-same fs 0 blank no-frame b) ∙ sym (s .«mark_plain»);
+      } in
+      let okay : FrameOkay (s .«field_count») blank = record
+          { few = omega arith; each = blank-okay (s .«field_count») } in (
         record {
-          line = s .«rule_count»;
-          within = (omega arith, line .1, omega arith);
-          frame = omega arith;
-          count = ap (λ q. q .count) (getD-set-same fs 0 blank no-frame b) ∙ sym (s .«mark_plain»)
-        } in
-      let okay : FrameOkay (s .«field_count») blank = record { few = omega arith; each = blank-okay (s .«field_count») } in
-      ( record {
           hold = omega arith;
           frames-hold = omega arith;
           few = omega arith;
           stood = λ i h.
-            let z : 0 ≡ i = omega arith in
-            subst (λ q. Stood s (set fs 0 blank) 1 (getD (set gs 0 start-goal) q no-goal)) z
-            (subst (Stood s (set fs 0 blank) 1) (sym (getD-set-same gs 0 start-goal no-goal a)) stood);
+              let z : 0 ≡ i = omega arith in
+              subst (λ q. Stood s (set fs 0 blank) 1 (getD (set gs 0 start-goal) q no-goal)) z
+              (subst (Stood s (set fs 0 blank) 1) (sym (getD-set-same gs 0 start-goal no-goal a)) stood);
           okay = λ i h.
-            let z : 0 ≡ i = omega arith in
-            subst (λ q. FrameOkay (s .«field_count») (getD (set fs 0 blank) q no-frame)) z
-            (subst (FrameOkay (s .«field_count»)) (sym (getD-set-same fs 0 blank no-frame b)) okay);
-        }, omega arith )
+              let z : 0 ≡ i = omega arith in
+              subst (λ q. FrameOkay (s .«field_count») (getD (set fs 0 blank) q no-frame)) z
+              (subst (FrameOkay (s .«field_count»)) (sym (getD-set-same fs 0 blank no-frame b)) okay);
+        },
+        omega arith,
+      )
 
 module _ (rules : List Rule) (F : Formula) (n : ℕ) (S : Marks) (z : Way) where
   abbrev pub Whole : List Waiting → ℕ → Marks → Way → Type 0
@@ -82,19 +88,31 @@ module _ (rules : List Rule) (F : Formula) (n : ℕ) (S : Marks) (z : Way) where
 
   module _ (gs : List Waiting) (k : ℕ) (P : Marks) (y : Way) (whole : Whole gs k P y) where
     pub work-fits : Fits z (Matching rules F n S) → Fits y (Solving rules gs k P)
-    work-fits h = fits-after {L = Matching rules F n S} (λ t u m s. (s .0, alone rules (m u (s .0) (s .1)))) whole h
+    work-fits h = fits-after {L = Matching rules F n S} (λ t u m s. (s .0, alone rules (m u (s .0) (s .1))))
+        whole h
 
     pub work-halt : (y′ : Way) → Halt y (Solving rules gs k P) y′ → Halt z (Matching rules F n S) y′
     work-halt y′ h = halt-after (λ t u m s. (s .0, alone rules (m u (s .0) (s .1)))) whole h
 
-    pub work-more : (gs′ : List Waiting) (k′ : ℕ) (Q : Marks) (y′ : Way) → Took y (Leads rules gs k P gs′ k′ Q) y′ → Whole gs′ k′ Q y′
-    work-more gs′ k′ Q y′ h = took-join (λ t u m s v o x. subst (λ q. Solves rules (goal [] F true ∷ []) (live n S) q o) (sym (append-assoc t u v)) (m (u ++ v) o (s v o x))) whole h
+    pub work-more :
+        (gs′ : List Waiting) (k′ : ℕ) (Q : Marks) (y′ : Way)
+        → Took y (Leads rules gs k P gs′ k′ Q) y′
+        → Whole gs′ k′ Q y′
+    work-more gs′ k′ Q y′ h = took-join (λ t u m s v o x. subst
+        (λ q. Solves rules (goal [] F true ∷ []) (live n S) q o) (sym (append-assoc t u v))
+        (m (u ++ v) o (s v o x))) whole h
 
-    pub work-ends : (o : State) (y′ : Way) → Took y (λ v. Solves rules gs (live k P) v o) y′ → Took z (λ v. Matches rules [] F true (live n S) v o) y′
+    pub work-ends :
+        (o : State) (y′ : Way)
+        → Took y (λ v. Solves rules gs (live k P) v o) y′
+        → Took z (λ v. Matches rules [] F true (live n S) v o) y′
     work-ends o y′ h = took-join (λ t u m s. alone rules (m u o s)) whole h
 
     pub work-done : (w : ℕ) → some w P ≡ true → gs ≡ [] → Matched w rules F n S z P y
     work-done w l e = record {
       fuel = k;
-      took = took-map (λ v m. subst (λ q. Matches rules [] F true (live n S) q (live k P)) (append-nil v) (alone rules (m [] (live k P) (subst (λ q. Solves rules q (live k P) [] (live k P)) (sym e) solved)))) whole;
-      alive = l }
+      took = took-map (λ v m. subst (λ q. Matches rules [] F true (live n S) q (live k P)) (append-nil v)
+          (alone rules (m [] (live k P) (subst (λ q. Solves rules q (live k P) [] (live k P)) (sym e)
+          solved)))) whole;
+      alive = l;
+    }

@@ -1,7 +1,8 @@
--- What a run along recorded entries answers, and when it refuses; and the same of a run by the numbers of a source.
+-- What a run along recorded entries answers, and when it is refused; and the same of a run by the numbers of a
+-- source.
 use Prim.Native.Nat.{ℕ, _+_, _*_, _≤_}
 use mathlib.Core.Path.{_≡_}
-use mathlib.Core.Logic.{_≢_}
+use mathlib.Core.Logic.{_≢_, _⊎_}
 use mathlib.Core.Bool.{true}
 use mathlib.Core.List.{List, [], _∷_, _++_}
 use lib.ListN.{length, take, drop}
@@ -29,10 +30,12 @@ pub record Setting : Type 0 where
   pub fields : ℕ
   pub starting : Marks
 
+-- the setting of these four
 abbrev pub setting : Sheet → ℕ → ℕ → Marks → Setting
 setting s n w S = record { sheet = s; fuel = n; fields = w; starting = S }
 
--- the lists that a caller lends: the two trace lists and the mark list; of goals and frames only the lengths matter
+-- the lists that a caller lends: the two trace lists and the mark list; of the lists of goals and frames
+-- only the lengths matter
 pub record Lists : Type 0 where
   pub picks : List ℕ
   pub widths : List ℕ
@@ -40,11 +43,12 @@ pub record Lists : Type 0 where
   pub goals : ℕ
   pub frames : ℕ
 
+-- the lists of these contents and lengths
 abbrev pub lists : List ℕ → List ℕ → List ℕ → ℕ → ℕ → Lists
 lists ps ws m g f = record { picks = ps; widths = ws; mark = m; goals = g; frames = f }
 
--- the trace lists and the goals have 16 × (fuel + 1) + 8 entries or more, the frames fuel + 1, the mark as many as
--- there are fields, and the recorded entries are entries of the trace lists
+-- the trace lists and the goals have at least 16 × (fuel + 1) + 8 entries, the frames fuel + 1, the mark
+-- one for each field, and the given entries stand in the trace lists
 pub record LongEnough (fuel fields given : ℕ) (l : Lists) : Type 0 where
   pub picks : 16 * (fuel + 1) + 8 ≤ length (l .picks)
   pub widths : 16 * (fuel + 1) + 8 ≤ length (l .widths)
@@ -115,41 +119,45 @@ SameFields s = s .fields ≡ fields-of (s .sheet)
 abbrev pub first-entries : (given : ℕ) → Lists → Guide
 first-entries given l = recorded (entries (l .picks) (l .widths) 0 given)
 
--- when following is refused, with the number
-pub data Refuses (s : Setting) (given : ℕ) (l : Lists) (k : ℕ) : Type 0 where
+-- the refusals that come before a run, with the number
+pub data Barred (s : Setting) (given : ℕ) (l : Lists) (k : ℕ) : Type 0 where
   -- 12: store and sheet differ in fields
   fields-differ :
       k ≡ 12
       → (SameFields s → ⊥)
-      → Refuses s given l k
+      → Barred s given l k
   -- 13: a list is too short
   list-short :
       k ≡ 13
       → SameFields s
       → (LongEnough (s .fuel) (s .fields) given l → ⊥)
-      → Refuses s given l k
-  -- 14: no run follows the given entries to their end
-  trace-unfit :
-      k ≡ 14
-      → SameFields s
-      → LongEnough (s .fuel) (s .fields) given l
-      → ((t : Trace) (o : Outcome)
-         → Run (s .sheet) (s .fuel) (s .starting) t o
-         → Guided (first-entries given l) t (recorded [])
-         → ⊥)
-      → Refuses s given l k
+      → Barred s given l k
 
--- what `follow` answers: the run that follows the given entries to their end, or a refusal that leaves the lists
+-- 14: no run follows the given entries to their end
+pub record Unfit (s : Setting) (given : ℕ) (l : Lists) (k : ℕ) : Type 0 where
+  pub number : k ≡ 14
+  pub fields : SameFields s
+  pub long : LongEnough (s .fuel) (s .fields) given l
+  pub none :
+      (t : Trace) (o : Outcome)
+      → Run (s .sheet) (s .fuel) (s .starting) t o
+      → Guided (first-entries given l) t (recorded [])
+      → ⊥
+
+-- what `follow` answers: the run that follows the given entries to their end, or a refusal that leaves
+-- the lists as found
 abbrev pub Follows : Setting → (given : ℕ) → Lists → Result Ran Refusal → Lists → Type 0
 Follows s given before (Ok a) after =
-    SameFields s × LongEnough (s .fuel) (s .fields) given before × Runs s (first-entries given before) before a after
-Follows s given before (Err e) after = Refuses s given before (number e) × Untouched before after
+    SameFields s × LongEnough (s .fuel) (s .fields) given before
+    × Runs s (first-entries given before) before a after
+Follows s given before (Err e) after =
+    (Barred s given before (number e) ⊎ Unfit s given before (number e)) × Untouched before after
 
 -- each mark of P is one of S
 abbrev pub Inside : Marks → Marks → Type 0
 Inside P S = (m : List ℕ) → P m ≡ true → S m ≡ true
 
--- the current set that a call leaves: within the starting set once it ran, and as it was when it was refused before
+-- the current set that a call leaves: within the starting set after a run, as it was when no run began
 abbrev pub Leaves : {A : Type 0} → (starting before after : Marks) → Result A Refusal → Type 0
 Leaves starting before after (Ok a) = Inside after starting
 Leaves starting before after (Err e) =
@@ -180,23 +188,9 @@ pub record DrawsTo (s : Setting) (ns rest : List ℕ) (before : Lists) (a : Drew
   pub told : drawn-of a (s .fields) (after .mark) ≡ result
   pub marked : after .mark ≡ drawn-filled result (before .mark)
 
--- when a draw is refused, with the number
-pub data RefusesDraw (s : Setting) (l : Lists) (k : ℕ) : Type 0 where
-  -- 12: store and sheet differ in fields
-  fields-differ :
-      k ≡ 12
-      → (SameFields s → ⊥)
-      → RefusesDraw s l k
-  -- 13: a list is too short
-  list-short :
-      k ≡ 13
-      → SameFields s
-      → (LongEnough (s .fuel) (s .fields) 0 l → ⊥)
-      → RefusesDraw s l k
-
 -- what `draw` answers: the draw from the waiting numbers, or a refusal that takes none and leaves the lists
 abbrev pub AnswersDraw : Setting → (waiting rest : List ℕ) → Lists → Result Drew Refusal → Lists → Type 0
 AnswersDraw s ns rest before (Ok a) after =
     SameFields s × LongEnough (s .fuel) (s .fields) 0 before × DrawsTo s ns rest before a after
 AnswersDraw s ns rest before (Err e) after =
-    RefusesDraw s before (number e) × Untouched before after × (rest ≡ ns)
+    Barred s 0 before (number e) × Untouched before after × (rest ≡ ns)

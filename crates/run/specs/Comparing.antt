@@ -26,7 +26,8 @@ abbrev pub Resolving : List Argument → Marks → Term → Trace → Type 0
 Resolving e S x t = (P : Marks) × (a : Argument) × Resolves e S x t P a
 
 -- the term comes to a, and marks are left
-pub record ResolvedTo (w : ℕ) (e : List Argument) (S : Marks) (x : Term) (z : Way) (a : Held) (P : Marks) (y : Way) : Type 0 where
+pub record ResolvedTo (w : ℕ) (e : List Argument) (S : Marks) (x : Term) (z : Way) (a : Held) (P : Marks)
+    (y : Way) : Type 0 where
   pub took : Took z (λ t. Resolves e S x t P (argument-of a)) y
   pub okay : Okay w a
   pub alive : some w P ≡ true
@@ -75,12 +76,15 @@ Comparing e l c r b S t =
     (o : ℕ → State) × ((rules : List Rule) (n : ℕ) → Matches rules e (compare l c r) b (live n S) t (o n))
 
 -- the comparison leaves the set P, which has marks
-pub record ComparedTo (w : ℕ) (e : List Argument) (l : Term) (c : Comparison) (r : Term) (b : Bool) (S : Marks) (z : Way) (P : Marks) (y : Way) : Type 0 where
-  pub took : Took z (λ t. (rules : List Rule) (n : ℕ) → Matches rules e (compare l c r) b (live n S) t (live n P)) y
+pub record ComparedTo (w : ℕ) (e : List Argument) (l : Term) (c : Comparison) (r : Term) (b : Bool)
+    (S : Marks) (z : Way) (P : Marks) (y : Way) : Type 0 where
+  pub took :
+      Took z (λ t. (rules : List Rule) (n : ℕ) → Matches rules e (compare l c r) b (live n S) t (live n P)) y
   pub alive : some w P ≡ true
 
 -- marks are left, or it is a dead end, or the run halted
-abbrev pub Compared : ℕ → List Argument → Term → Comparison → Term → Bool → Marks → Way → Option Bool → Marks → Way → Type 0
+abbrev pub Compared :
+    ℕ → List Argument → Term → Comparison → Term → Bool → Marks → Way → Option Bool → Marks → Way → Type 0
 Compared w e l c r b S z (Some true) P y = ComparedTo w e l c r b S z P y
 Compared w e l c r b S z (Some false) P y =
     Took z (λ t. (rules : List Rule) (n : ℕ) → Matches rules e (compare l c r) b (live n S) t dead) y

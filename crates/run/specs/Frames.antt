@@ -1,5 +1,5 @@
--- For the contracts of inner functions: what the code holds of arguments and frames, as the arguments of a match, and
--- the bounds that a sheet keeps of the names and terms of a line.
+-- For the contracts of inner functions: arguments and frames as the arguments of a match, and what a sheet
+-- keeps of the names and terms of a line.
 use Prim.Native.Nat.{ℕ, _<_, _≤_}
 use mathlib.Core.Path.{_≡_}
 use mathlib.Core.List.{List, map}

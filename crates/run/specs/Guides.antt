@@ -1,5 +1,5 @@
--- What tells a run its picks: the entries that an earlier run recorded, followed one by one, with pick 0 past their
--- end; or the numbers that wait in a source, one number for each choice.
+-- What tells a run its picks: entries recorded earlier, followed one by one, with pick 0 past their end; or the
+-- numbers that wait in a source, one for each choice.
 use Prim.Native.Nat.{ℕ, zero, suc, _<_}
 use mathlib.Core.Path.{_≡_}
 use mathlib.Core.List.{List, [], _∷_}

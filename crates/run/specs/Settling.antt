@@ -15,9 +15,11 @@ use Rattle.run.specs.Answering.{Inside}
 use Rattle.run.specs.Frames.{argument-of}
 use Rattle.run.specs.Ways.{Way, Took, Halt}
 
--- a store of w fields with starting set B and current set S keeps the first two, and of the third no more than it had
-abbrev pub Narrows : (w : ℕ) (B S : Marks) (w′ : ℕ) (B′ S′ : Marks) → Type 0
-Narrows w B S w′ B′ S′ = (w′ ≡ w) × (B′ ≡ B) × Inside S′ S
+-- a call leaves the number of fields and the starting set of a store, and no mark comes into the current set
+abbrev pub Narrows : {X : Type 0} (width : X → ℕ) (starting current : X → Marks) (before after : X) → Type 0
+Narrows width starting current before after =
+    (width after ≡ width before) × (starting after ≡ starting before)
+    × Inside (current after) (current before)
 
 -- the k-th number of the field f is answered, and just its marks are kept
 abbrev pub KeepsValue : (w : ℕ) → Marks → (f k : ℕ) → Option ℕ → Marks → Type 0

@@ -1,5 +1,5 @@
--- For the contracts of inner functions: the trace lists and the guide of a run under way, and what it means that a
--- part of the run took a trace, or came to a choice at which no pick is told.
+-- For the contracts of inner functions: the trace lists and the guide of a run under way; that a part of it
+-- took a trace, or came to a choice at which no pick is told.
 use Prim.Native.Nat.{ℕ, zero, suc, _+_, _-_, _<_, _≤_}
 use mathlib.Core.Path.{_≡_}
 use mathlib.Core.List.{List, [], _∷_, _++_}
@@ -29,6 +29,7 @@ pub record Trail : Type 0 where
   pub widths : List ℕ
   pub at : ℕ
 
+-- the trail of these three
 abbrev pub trail : List ℕ → List ℕ → ℕ → Trail
 trail ps ws k = record { picks = ps; widths = ws; at = k }
 
@@ -56,6 +57,7 @@ pub record Way : Type 0 where
   pub trail : Trail
   pub guide : Guide
 
+-- the way from place k on
 abbrev pub way : GuideUsed → (picks widths : List ℕ) (k : ℕ) (waiting : List ℕ) → Way
 way g ps ws k ns = record { trail = trail ps ws k; guide = ahead g ps ws k ns }
 
@@ -81,7 +83,13 @@ pub record Halt (z : Way) (M : Trace → Type 0) (y : Way) : Type 0 where
   pub end : y .trail ≡ written (z .trail) before
 
 -- the pick that is told at place k, or that none is
-abbrev pub Tells : GuideUsed → ChoiceMade → (picks widths : List ℕ) (k : ℕ) (waiting : List ℕ) → Option ℕ → (rest : List ℕ) → Type 0
+abbrev pub Tells :
+    GuideUsed
+    → ChoiceMade
+    → (picks widths : List ℕ) (k : ℕ) (waiting : List ℕ)
+    → Option ℕ
+    → (rest : List ℕ)
+    → Type 0
 Tells g c ps ws k ns (Some p) rest =
     (p < width (choice-of c)) × Picks (ahead g ps ws k ns) (choice-of c) p (ahead g ps ws (suc k) rest)
 Tells g c ps ws k ns None rest = NoPick (ahead g ps ws k ns) (choice-of c) × (rest ≡ ns)

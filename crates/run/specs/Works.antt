@@ -21,7 +21,8 @@ abbrev pub Matching : List Rule → Formula → ℕ → Marks → Trace → Type
 Matching rules F n S v = (o : State) × Matches rules [] F true (live n S) v o
 
 -- the formula is matched, and marks are left
-pub record Matched (w : ℕ) (rules : List Rule) (F : Formula) (n : ℕ) (S : Marks) (z : Way) (P : Marks) (y : Way) : Type 0 where
+pub record Matched (w : ℕ) (rules : List Rule) (F : Formula) (n : ℕ) (S : Marks) (z : Way) (P : Marks)
+    (y : Way) : Type 0 where
   pub fuel : ℕ
   pub took : Took z (λ v. Matches rules [] F true (live n S) v (live fuel P)) y
   pub alive : some w P ≡ true
@@ -39,7 +40,10 @@ Ending f c S v = (P : Marks) × (vs : List ℕ) × Ends f c S v P vs
 
 -- whatever settles the fields from f on settles all w
 abbrev pub EndLeads : (w : ℕ) → Marks → (f c : ℕ) → Marks → List ℕ → Trace → Type 0
-EndLeads w S f c P vs v = (u : Trace) (Q : Marks) (ws : List ℕ) → Ends f c P u Q ws → Ends 0 w S (v ++ u) Q (vs ++ ws)
+EndLeads w S f c P vs v =
+    (u : Trace) (Q : Marks) (ws : List ℕ)
+    → Ends f c P u Q ws
+    → Ends 0 w S (v ++ u) Q (vs ++ ws)
 
 -- the w fields are settled to the first of the numbers, or the run halted
 abbrev pub Finished : (w : ℕ) → Marks → Way → Option (List ℕ) → Marks → Way → Type 0

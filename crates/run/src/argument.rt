@@ -9,10 +9,13 @@ ghost use Rattle.run.specs.Frames.{Okay, argument-of, arguments-of, FrameOkay,
 ghost use Rattle.run.specs.Ways.{way, Fits};
 ghost use Rattle.run.specs.Settling.{Narrows};
 ghost use Rattle.run.specs.Comparing.{Knows, Resolved, Resolving};
-use crate::goal::{Argument, Frame};
+use crate::goal::Argument;
+use crate::goal::Frame;
 use crate::guide::Guide;
 use crate::settle::settle;
-use sheet::node::{Name, Shift, Term};
+use sheet::node::Name;
+use sheet::node::Shift;
+use sheet::node::Term;
 use source::Source;
 use store::Store;
 
@@ -67,18 +70,40 @@ pub(crate) fn known<S: Store>(store: &S, a: Argument) -> Option<u16>
 }
 
 // What a term comes to: a name under `+` or `-` is settled, a bare name stays what it stands for.
-pub(crate) fn resolve<S: Store, R: Source>(store: &mut S, frame: Frame, x: Term, picks: &mut [u16], widths: &mut [u16], at: &mut usize, guide: Guide, source: &mut R) -> Option<Argument>
+pub(crate) fn resolve<S: Store, R: Source>(
+    store: &mut S,
+    frame: Frame,
+    x: Term,
+    picks: &mut [u16],
+    widths: &mut [u16],
+    at: &mut usize,
+    guide: Guide,
+    source: &mut R,
+) -> Option<Argument>
     requires frame { ⌜ FrameOkay (width (now store)) frame ⌝ }
     requires okay { ⌜ TermOkay (width (now store)) (frame .count) x ⌝ }
     requires some { ⌜ some (width (now store)) (current (now store)) ≡ true ⌝ }
-    requires room { ⌜ Fits (way guide (now picks) (now widths) (now at) (waiting (now source))) (Resolving (arguments-of frame) (current (now store)) (term-of x)) ⌝ }
-    ensures same { λ _. ⌜ Narrows (width (now (store .entry))) (starting (now (store .entry))) (current (now (store .entry))) (width (now (store .exit))) (starting (now (store .exit))) (current (now (store .exit))) ⌝ }
-    ensures left { λ r. ⌜ Resolved (width (now (store .entry))) (arguments-of frame) (current (now (store .entry))) (term-of x) (way guide (now (picks .entry)) (now (widths .entry)) (now (at .entry)) (waiting (now (source .entry)))) r (current (now (store .exit))) (way guide (now (picks .exit)) (now (widths .exit)) (now (at .exit)) (waiting (now (source .exit)))) ⌝ }
+    requires room { ⌜ Fits (way guide (now picks) (now widths) (now at) (waiting (now source)))
+        (Resolving (arguments-of frame) (current (now store)) (term-of x)) ⌝ }
+    ensures same { λ _. ⌜ Narrows width starting current (now (store .entry)) (now (store .exit)) ⌝ }
+    ensures left { λ r. ⌜ Resolved (width (now (store .entry))) (arguments-of frame)
+        (current (now (store .entry))) (term-of x)
+        (way guide (now (picks .entry)) (now (widths .entry)) (now (at .entry)) (waiting (now (source .entry))))
+        r (current (now (store .exit)))
+        (way guide (now (picks .exit)) (now (widths .exit)) (now (at .exit)) (waiting (now (source .exit)))) ⌝ }
 {
     match x {
         Term::Number(n) => Some(Argument::Number(n)),
         Term::Bare(y) => Some(argument(frame, y)),
-        Term::Moved(y, d) => match settle(store, argument(frame, y), picks, widths, at, guide, source) {
+        Term::Moved(y, d) => match settle(
+            store,
+            argument(frame, y),
+            picks,
+            widths,
+            at,
+            guide,
+            source,
+        ) {
             Some(v) => Some(Argument::Number(shifted(d, v))),
             None => None,
         },

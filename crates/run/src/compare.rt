@@ -9,8 +9,10 @@ ghost use Rattle.run.specs.Frames.{Okay, argument-of, arguments-of, FrameOkay,
 ghost use Rattle.run.specs.Ways.{way, Fits};
 ghost use Rattle.run.specs.Settling.{Narrows};
 ghost use Rattle.run.specs.Comparing.{LeftOne, LeavingOne, AtMostOne, Kept, Narrowed, KeptRight, Compared, Comparing};
-use crate::argument::{known, resolve};
-use crate::goal::{Argument, Frame};
+use crate::argument::known;
+use crate::argument::resolve;
+use crate::goal::Argument;
+use crate::goal::Frame;
 use crate::guide::Guide;
 use crate::settle::settle;
 use formula::Comparison;
@@ -29,13 +31,27 @@ fn aim(target: bool, sign: Comparison) -> Comparison
 }
 
 // Of two unknown fields the left is settled; false where no pick is told.
-fn leave_one<S: Store, R: Source>(store: &mut S, x: Argument, y: Argument, picks: &mut [u16], widths: &mut [u16], at: &mut usize, guide: Guide, source: &mut R) -> bool
+fn leave_one<S: Store, R: Source>(
+    store: &mut S,
+    x: Argument,
+    y: Argument,
+    picks: &mut [u16],
+    widths: &mut [u16],
+    at: &mut usize,
+    guide: Guide,
+    source: &mut R,
+) -> bool
     requires left { ⌜ Okay (width (now store)) x ⌝ }
     requires right { ⌜ Okay (width (now store)) y ⌝ }
     requires some { ⌜ some (width (now store)) (current (now store)) ≡ true ⌝ }
-    requires room { ⌜ Fits (way guide (now picks) (now widths) (now at) (waiting (now source))) (LeavingOne (current (now store)) (argument-of x) (argument-of y)) ⌝ }
-    ensures same { λ _. ⌜ Narrows (width (now (store .entry))) (starting (now (store .entry))) (current (now (store .entry))) (width (now (store .exit))) (starting (now (store .exit))) (current (now (store .exit))) ⌝ }
-    ensures left { λ r. ⌜ LeftOne (width (now (store .entry))) (current (now (store .entry))) (argument-of x) (argument-of y) (way guide (now (picks .entry)) (now (widths .entry)) (now (at .entry)) (waiting (now (source .entry)))) r (current (now (store .exit))) (way guide (now (picks .exit)) (now (widths .exit)) (now (at .exit)) (waiting (now (source .exit)))) ⌝ }
+    requires room { ⌜ Fits (way guide (now picks) (now widths) (now at) (waiting (now source)))
+        (LeavingOne (current (now store)) (argument-of x) (argument-of y)) ⌝ }
+    ensures same { λ _. ⌜ Narrows width starting current (now (store .entry)) (now (store .exit)) ⌝ }
+    ensures left { λ r. ⌜ LeftOne (width (now (store .entry))) (current (now (store .entry))) (argument-of x)
+        (argument-of y)
+        (way guide (now (picks .entry)) (now (widths .entry)) (now (at .entry)) (waiting (now (source .entry))))
+        r (current (now (store .exit)))
+        (way guide (now (picks .exit)) (now (widths .exit)) (now (at .exit)) (waiting (now (source .exit)))) ⌝ }
 {
     match known(store, x) {
         Some(_) => true,
@@ -53,8 +69,9 @@ fn leave_one<S: Store, R: Source>(store: &mut S, x: Argument, y: Argument, picks
 fn narrow<S: Store>(store: &mut S, field: u8, sign: Comparison, number: u16) -> bool
     requires field { ⌜ field < width (now store) ⌝ }
     requires number { ⌜ number < 1024 ⌝ }
-    ensures same { λ _. ⌜ Narrows (width (now (store .entry))) (starting (now (store .entry))) (current (now (store .entry))) (width (now (store .exit))) (starting (now (store .exit))) (current (now (store .exit))) ⌝ }
-    ensures left { λ r. ⌜ Narrowed (width (now (store .entry))) (current (now (store .entry))) field sign number r (current (now (store .exit))) ⌝ }
+    ensures same { λ _. ⌜ Narrows width starting current (now (store .entry)) (now (store .exit)) ⌝ }
+    ensures left { λ r. ⌜ Narrowed (width (now (store .entry))) (current (now (store .entry))) field sign
+        number r (current (now (store .exit))) ⌝ }
 {
     let _ = store.keep(field as usize, sign, number);
     !store.is_empty()
@@ -66,8 +83,9 @@ fn keep_by<S: Store>(store: &mut S, x: Argument, sign: Comparison, y: Argument) 
     requires right { ⌜ Okay (width (now store)) y ⌝ }
     requires some { ⌜ some (width (now store)) (current (now store)) ≡ true ⌝ }
     requires apart { ⌜ AtMostOne (current (now store)) (argument-of x) (argument-of y) ⌝ }
-    ensures same { λ _. ⌜ Narrows (width (now (store .entry))) (starting (now (store .entry))) (current (now (store .entry))) (width (now (store .exit))) (starting (now (store .exit))) (current (now (store .exit))) ⌝ }
-    ensures left { λ r. ⌜ Kept (width (now (store .entry))) (current (now (store .entry))) sign (argument-of x) (argument-of y) r (current (now (store .exit))) ⌝ }
+    ensures same { λ _. ⌜ Narrows width starting current (now (store .entry)) (now (store .exit)) ⌝ }
+    ensures left { λ r. ⌜ Kept (width (now (store .entry))) (current (now (store .entry))) sign
+        (argument-of x) (argument-of y) r (current (now (store .exit))) ⌝ }
 {
     match x {
         Argument::Field(f) => match known(store, y) {
@@ -86,8 +104,9 @@ fn keep_right<S: Store>(store: &mut S, n: u16, sign: Comparison, y: Argument) ->
     requires right { ⌜ Okay (width (now store)) y ⌝ }
     requires some { ⌜ some (width (now store)) (current (now store)) ≡ true ⌝ }
     requires small { ⌜ n < 1024 ⌝ }
-    ensures same { λ _. ⌜ Narrows (width (now (store .entry))) (starting (now (store .entry))) (current (now (store .entry))) (width (now (store .exit))) (starting (now (store .exit))) (current (now (store .exit))) ⌝ }
-    ensures left { λ r. ⌜ KeptRight (width (now (store .entry))) (current (now (store .entry))) sign n (argument-of y) r (current (now (store .exit))) ⌝ }
+    ensures same { λ _. ⌜ Narrows width starting current (now (store .entry)) (now (store .exit)) ⌝ }
+    ensures left { λ r. ⌜ KeptRight (width (now (store .entry))) (current (now (store .entry))) sign n
+        (argument-of y) r (current (now (store .exit))) ⌝ }
 {
     match y {
         Argument::Field(g) => narrow(store, g, sign.mirrored(), n),
@@ -96,14 +115,30 @@ fn keep_right<S: Store>(store: &mut S, n: u16, sign: Comparison, y: Argument) ->
 }
 
 // A comparison with its target: whether any mark is left, or none where no pick is told.
-pub(crate) fn compare<S: Store, R: Source>(store: &mut S, frame: Frame, l: Term, sign: Comparison, r: Term, target: bool, picks: &mut [u16], widths: &mut [u16], at: &mut usize, guide: Guide, source: &mut R) -> Option<bool>
+pub(crate) fn compare<S: Store, R: Source>(
+    store: &mut S,
+    frame: Frame,
+    l: Term,
+    sign: Comparison,
+    r: Term,
+    target: bool,
+    picks: &mut [u16],
+    widths: &mut [u16],
+    at: &mut usize,
+    guide: Guide,
+    source: &mut R,
+) -> Option<bool>
     requires frame { ⌜ FrameOkay (width (now store)) frame ⌝ }
     requires left { ⌜ TermOkay (width (now store)) (frame .count) l ⌝ }
     requires right { ⌜ TermOkay (width (now store)) (frame .count) r ⌝ }
     requires some { ⌜ some (width (now store)) (current (now store)) ≡ true ⌝ }
-    requires room { ⌜ Fits (way guide (now picks) (now widths) (now at) (waiting (now source))) (Comparing (arguments-of frame) (term-of l) sign (term-of r) target (current (now store))) ⌝ }
-    ensures same { λ _. ⌜ Narrows (width (now (store .entry))) (starting (now (store .entry))) (current (now (store .entry))) (width (now (store .exit))) (starting (now (store .exit))) (current (now (store .exit))) ⌝ }
-    ensures left { λ q. ⌜ Compared (width (now (store .entry))) (arguments-of frame) (term-of l) sign (term-of r) target (current (now (store .entry))) (way guide (now (picks .entry)) (now (widths .entry)) (now (at .entry)) (waiting (now (source .entry)))) q (current (now (store .exit))) (way guide (now (picks .exit)) (now (widths .exit)) (now (at .exit)) (waiting (now (source .exit)))) ⌝ }
+    requires room { ⌜ Fits (way guide (now picks) (now widths) (now at) (waiting (now source)))
+        (Comparing (arguments-of frame) (term-of l) sign (term-of r) target (current (now store))) ⌝ }
+    ensures same { λ _. ⌜ Narrows width starting current (now (store .entry)) (now (store .exit)) ⌝ }
+    ensures left { λ q. ⌜ Compared (width (now (store .entry))) (arguments-of frame) (term-of l) sign
+        (term-of r) target (current (now (store .entry)))
+        (way guide (now (picks .entry)) (now (widths .entry)) (now (at .entry)) (waiting (now (source .entry)))) q (current (now (store .exit)))
+        (way guide (now (picks .exit)) (now (widths .exit)) (now (at .exit)) (waiting (now (source .exit)))) ⌝ }
 {
     let Some(x) = resolve(store, frame, l, picks, widths, at, guide, source) else {
         return None;

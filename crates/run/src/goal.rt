@@ -16,7 +16,10 @@ pub struct Frame {
 
 impl Frame {
     // The frame of a formula without parameters.
-    pub const NONE: Frame = Frame { arguments: [Argument::Number(0); 4], count: 0 };
+    pub const NONE: Frame = Frame {
+        arguments: [Argument::Number(0); 4],
+        count: 0,
+    };
 }
 
 // A formula that waits to be matched: its entry in the sheet's table, its target, and its frame.
@@ -29,5 +32,9 @@ pub struct Goal {
 
 impl Goal {
     // The goal that fills a fresh list.
-    pub const NONE: Goal = Goal { formula: 0, target: false, frame: 0 };
+    pub const NONE: Goal = Goal {
+        formula: 0,
+        target: false,
+        frame: 0,
+    };
 }

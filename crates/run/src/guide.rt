@@ -50,10 +50,18 @@ impl Choice {
 
 impl Guide {
     // The pick of a choice at that place of the trace lists, or none where no pick is told.
-    fn tell<R: Source>(self, choice: Choice, picks: &[u16], widths: &[u16], at: usize, source: &mut R) -> Option<u16>
+    fn tell<R: Source>(
+        self,
+        choice: Choice,
+        picks: &[u16],
+        widths: &[u16],
+        at: usize,
+        source: &mut R,
+    ) -> Option<u16>
         requires usable { ⌜ Usable choice ⌝ }
         requires room { ⌜ Room 1 (trail (now picks) (now widths) at) ⌝ }
-        ensures { λ r. ⌜ Tells self choice (now (picks .entry)) (now (widths .entry)) at (waiting (now (source .entry))) r (waiting (now (source .exit))) ⌝ }
+        ensures { λ r. ⌜ Tells self choice (now (picks .entry)) (now (widths .entry)) at
+            (waiting (now (source .entry))) r (waiting (now (source .exit))) ⌝ }
     {
         match self {
             Guide::Recorded(given) => {
@@ -77,10 +85,20 @@ impl Guide {
 }
 
 // Makes a choice: writes its pick and its width at the end of the trace, or writes nothing where no pick is told.
-pub(crate) fn choose<R: Source>(choice: Choice, picks: &mut [u16], widths: &mut [u16], at: &mut usize, guide: Guide, source: &mut R) -> Option<u16>
+pub(crate) fn choose<R: Source>(
+    choice: Choice,
+    picks: &mut [u16],
+    widths: &mut [u16],
+    at: &mut usize,
+    guide: Guide,
+    source: &mut R,
+) -> Option<u16>
     requires usable { ⌜ Usable choice ⌝ }
     requires room { ⌜ Room 1 (trail (now picks) (now widths) (now at)) ⌝ }
-    ensures { λ r. ⌜ Chosen (choice-of choice) (way guide (now (picks .entry)) (now (widths .entry)) (now (at .entry)) (waiting (now (source .entry)))) r (way guide (now (picks .exit)) (now (widths .exit)) (now (at .exit)) (waiting (now (source .exit)))) ⌝ }
+    ensures { λ r. ⌜ Chosen (choice-of choice)
+        (way guide (now (picks .entry)) (now (widths .entry)) (now (at .entry)) (waiting (now (source .entry))))
+        r
+        (way guide (now (picks .exit)) (now (widths .exit)) (now (at .exit)) (waiting (now (source .exit)))) ⌝ }
 {
     let k = *at;
     let Some(pick) = guide.tell(choice, picks, widths, k, source) else {

@@ -8,7 +8,9 @@ ghost use Rattle.run.specs.Frames.{Okay, argument-of};
 ghost use Rattle.run.specs.Ways.{way, Fits};
 ghost use Rattle.run.specs.Settling.{Narrows, Settled, Settling, KeepsValue};
 use crate::goal::Argument;
-use crate::guide::{choose, Choice, Guide};
+use crate::guide::Choice;
+use crate::guide::Guide;
+use crate::guide::choose;
 use formula::Comparison;
 use source::Source;
 use store::Store;
@@ -17,8 +19,9 @@ use store::Store;
 fn keep_value<S: Store>(store: &mut S, field: usize, k: usize) -> Option<u16>
     requires field { ⌜ field < width (now store) ⌝ }
     requires inside { ⌜ k < length (values (width (now store)) (current (now store)) field) ⌝ }
-    ensures same { λ _. ⌜ Narrows (width (now (store .entry))) (starting (now (store .entry))) (current (now (store .entry))) (width (now (store .exit))) (starting (now (store .exit))) (current (now (store .exit))) ⌝ }
-    ensures left { λ r. ⌜ KeepsValue (width (now (store .entry))) (current (now (store .entry))) field k r (current (now (store .exit))) ⌝ }
+    ensures same { λ _. ⌜ Narrows width starting current (now (store .entry)) (now (store .exit)) ⌝ }
+    ensures left { λ r. ⌜ KeepsValue (width (now (store .entry))) (current (now (store .entry))) field k r
+        (current (now (store .exit))) ⌝ }
 {
     match store.value(field, k) {
         Some(v) => {
@@ -30,12 +33,24 @@ fn keep_value<S: Store>(store: &mut S, field: usize, k: usize) -> Option<u16>
 }
 
 // Settles what a name stands for; none where no pick is told.
-pub(crate) fn settle<S: Store, R: Source>(store: &mut S, a: Argument, picks: &mut [u16], widths: &mut [u16], at: &mut usize, guide: Guide, source: &mut R) -> Option<u16>
+pub(crate) fn settle<S: Store, R: Source>(
+    store: &mut S,
+    a: Argument,
+    picks: &mut [u16],
+    widths: &mut [u16],
+    at: &mut usize,
+    guide: Guide,
+    source: &mut R,
+) -> Option<u16>
     requires okay { ⌜ Okay (width (now store)) a ⌝ }
     requires some { ⌜ some (width (now store)) (current (now store)) ≡ true ⌝ }
-    requires room { ⌜ Fits (way guide (now picks) (now widths) (now at) (waiting (now source))) (Settling (current (now store)) (argument-of a)) ⌝ }
-    ensures same { λ _. ⌜ Narrows (width (now (store .entry))) (starting (now (store .entry))) (current (now (store .entry))) (width (now (store .exit))) (starting (now (store .exit))) (current (now (store .exit))) ⌝ }
-    ensures left { λ r. ⌜ Settled (width (now (store .entry))) (current (now (store .entry))) a (way guide (now (picks .entry)) (now (widths .entry)) (now (at .entry)) (waiting (now (source .entry)))) r (current (now (store .exit))) (way guide (now (picks .exit)) (now (widths .exit)) (now (at .exit)) (waiting (now (source .exit)))) ⌝ }
+    requires room { ⌜ Fits (way guide (now picks) (now widths) (now at) (waiting (now source)))
+        (Settling (current (now store)) (argument-of a)) ⌝ }
+    ensures same { λ _. ⌜ Narrows width starting current (now (store .entry)) (now (store .exit)) ⌝ }
+    ensures left { λ r. ⌜ Settled (width (now (store .entry))) (current (now (store .entry))) a
+        (way guide (now (picks .entry)) (now (widths .entry)) (now (at .entry)) (waiting (now (source .entry))))
+        r (current (now (store .exit)))
+        (way guide (now (picks .exit)) (now (widths .exit)) (now (at .exit)) (waiting (now (source .exit)))) ⌝ }
 {
     match a {
         Argument::Number(n) => Some(n),

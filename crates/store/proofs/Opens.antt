@@ -1,18 +1,18 @@
 -- The sets of the open store by its rows: what a narrowed row, full rows and an empty row make of them,
 -- and the numbers that a field takes.
-use Prim.Native.Nat.{ℕ, zero, suc, _+_, _<_, _≤_}
+use Prim.Native.Nat.{ℕ, zero, suc, _<_, _≤_}
 use mathlib.Core.Path.{_≡_, refl, sym, ap, subst, _∙_}
 use mathlib.Core.Logic.{⊎-elim}
-use mathlib.Core.Bool.{Bool, true, false, not, _&&_, and-assoc}
+use mathlib.Core.Bool.{Bool, true, false, _&&_, and-assoc}
 use mathlib.Core.List.{List, [], _∷_}
 use native.Mathlib.Omega.{arith}
 use lib.Dec.{eqb, ltb}
 use lib.ListN.{length, getD, set, length-set}
 use lib.Seq.{getD-set-same}
-use Rattle.std.proofs.shelf.Tests.{and-from, and-parts, and-left, and-right, eqb-true, eq-eqb, ne-eqb, lt-ltb, ltb-true, cases-bool, both-ways}
+use Rattle.std.proofs.shelf.Tests.{and-from, and-parts, and-left, and-right, eqb-true, eq-eqb, ne-eqb, cases-bool, both-ways}
 use Rattle.formula.specs.declared.Comparison.{Comparison}
 use Rattle.formula.specs.Comparing.{holds}
-use Rattle.marks.specs.Sets.{Marks, Shaped, kept}
+use Rattle.marks.specs.Sets.{kept}
 use Rattle.marks.specs.Counted.{any-below, below, some, takes, values}
 use Rattle.marks.proofs.Below.{any-below-decides}
 use Rattle.marks.proofs.Counted.{some-sound, some-complete, empty-some, takes-sound, takes-complete, values-by}
@@ -69,12 +69,12 @@ pub marks-keep : (n : ℕ) (rs : List Row) (f : ℕ) (c : Comparison) (k : ℕ) 
 unfolding marks-in
 marks-keep n rs f c k w h l e =
     let at : (m : List ℕ) → marks-in n (set rs f w) m ≡ kept (marks-in n rs) f c k m = λ m.
-        ⊎-elim
-        (λ t. let q = eqb-true (length m) n t in
-              ap (λ b. eqb (length m) n && b) (each-set rs m f w (λ v. holds c v k) (omega (arith, q)) l e)
-              ∙ sym (and-assoc (eqb (length m) n) (each-in rs m) (holds c (getD m f 0) k)))
-        (λ z. rw z refl)
-        (cases-bool (eqb (length m) n)) in
+    ⊎-elim
+    (λ t. let q = eqb-true (length m) n t in
+    ap (λ b. eqb (length m) n && b) (each-set rs m f w (λ v. holds c v k) (omega (arith, q)) l e)
+    ∙ sym (and-assoc (eqb (length m) n) (each-in rs m) (holds c (getD m f 0) k)))
+    (λ z. rw z refl)
+    (cases-bool (eqb (length m) n)) in
     λ i m. at m i
 
 -- Full rows
@@ -87,7 +87,8 @@ full-each rs [] l h e = refl
 full-each [] (v ∷ m) l h e = absurd (omega arith)
 full-each (r ∷ rs) (v ∷ m) l h e =
     let p = and-parts (ltb v 1024) (all-small m) e in
-    and-from _ _ (h 0 (omega arith) v ∙ p .0) (full-each rs m (omega arith) (λ i q. h (suc i) (omega arith)) (p .1))
+    and-from _ _ (h 0 (omega arith) v ∙ p .0)
+    (full-each rs m (omega arith) (λ i q. h (suc i) (omega arith)) (p .1))
 
 pub marks-full : (n : ℕ) (rs : List Row) → n ≤ length rs
     → ((i : ℕ) → i < n → (v : ℕ) → has (getD rs i no-row) v ≡ ltb v 1024)
@@ -95,12 +96,14 @@ pub marks-full : (n : ℕ) (rs : List Row) → n ≤ length rs
 unfolding marks-in every-mark
 marks-full n rs l full =
     let at : (m : List ℕ) → marks-in n rs m ≡ every-mark n m = λ m.
-        ⊎-elim
-        (λ t. let p = and-parts (eqb (length m) n) (all-small m) t in
-              let q = eqb-true _ _ (p .0) in
-              and-from _ _ (p .0) (full-each rs m (omega (arith, q)) (λ i g. full i (omega (arith, q, g))) (p .1)) ∙ sym t)
-        (λ z. ⊎-elim (λ t. absurd (both-ways _ z (marks-every n rs m t))) (λ y. y ∙ sym z) (cases-bool (marks-in n rs m)))
-        (cases-bool (every-mark n m)) in
+    ⊎-elim
+    (λ t. let p = and-parts (eqb (length m) n) (all-small m) t in
+    let q = eqb-true _ _ (p .0) in
+    and-from _ _ (p .0) (full-each rs m (omega (arith, q)) (λ i g. full i (omega (arith, q, g))) (p .1))
+    ∙ sym t)
+    (λ z. ⊎-elim (λ t. absurd (both-ways _ z (marks-every n rs m t))) (λ y. y ∙ sym z)
+    (cases-bool (marks-in n rs m)))
+    (cases-bool (every-mark n m)) in
     λ i m. at m i
 
 -- Emptiness: there is a mark just where no row is empty
@@ -135,7 +138,8 @@ marks-none n rs i l e =
     let p = and-parts (eqb (length m) n) (each-in rs m) t in
     let q = eqb-true (length m) n (p .0) in
     let h = each-at rs m i (p .1) (omega (arith, q)) in
-    both-ways _ e (any-below-decides (has (getD rs i no-row)) 1024 .1 (getD m i 0, has-small (getD rs i no-row) (getD m i 0) h, h)))
+    both-ways _ e (any-below-decides (has (getD rs i no-row)) 1024 .1
+    (getD m i 0, has-small (getD rs i no-row) (getD m i 0) h, h)))
 
 -- Values: where there is a mark, a field takes the numbers of its row
 
@@ -155,26 +159,29 @@ unfolding marks-in
 marks-takes n rs f l some-true v =
     let S = marks-in n rs in
     let there : has (getD rs f no-row) v ≡ true → takes n S f v ≡ true = λ h.
-        let r = some-sound n S some-true in
-        let p = and-parts (eqb (length (r .0)) n) (each-in rs (r .0)) (r .2) in
-        let q = eqb-true (length (r .0)) n (p .0) in
-        let e : S (set (r .0) f v) ≡ true =
-            and-from _ _ (eq-eqb _ _ (length-set (r .0) f v ∙ q)) (each-put rs (r .0) f v (omega (arith, q)) (p .1) h) in
-        takes-complete n S f v (set (r .0) f v) (marks-in-of n rs (set (r .0) f v) e) e
-        (getD-set-same (r .0) f v 0 (omega (arith, q))) in
+    let r = some-sound n S some-true in
+    let p = and-parts (eqb (length (r .0)) n) (each-in rs (r .0)) (r .2) in
+    let q = eqb-true (length (r .0)) n (p .0) in
+    let e : S (set (r .0) f v) ≡ true =
+    and-from _ _ (eq-eqb _ _ (length-set (r .0) f v ∙ q))
+    (each-put rs (r .0) f v (omega (arith, q)) (p .1) h) in
+    takes-complete n S f v (set (r .0) f v) (marks-in-of n rs (set (r .0) f v) e) e
+    (getD-set-same (r .0) f v 0 (omega (arith, q))) in
     let back : takes n S f v ≡ true → has (getD rs f no-row) v ≡ true = λ t.
-        let r = takes-sound n S f v t in
-        let p = and-parts (eqb (length (r .0)) n) (each-in rs (r .0)) (r .2) in
-        let q = eqb-true (length (r .0)) n (p .0) in
-        subst (λ x. has (getD rs f no-row) x ≡ true) (r .3) (each-at rs (r .0) f (p .1) (omega (arith, q))) in
+    let r = takes-sound n S f v t in
+    let p = and-parts (eqb (length (r .0)) n) (each-in rs (r .0)) (r .2) in
+    let q = eqb-true (length (r .0)) n (p .0) in
+    subst (λ x. has (getD rs f no-row) x ≡ true) (r .3) (each-at rs (r .0) f (p .1) (omega (arith, q))) in
     ⊎-elim
     (λ t. t ∙ sym (back t))
-    (λ z. ⊎-elim (λ h. absurd (both-ways _ z (there h))) (λ y. z ∙ sym y) (cases-bool (has (getD rs f no-row) v)))
+    (λ z. ⊎-elim (λ h. absurd (both-ways _ z (there h))) (λ y. z ∙ sym y)
+    (cases-bool (has (getD rs f no-row) v)))
     (cases-bool (takes n S f v))
 
 pub marks-values : (n : ℕ) (rs : List Row) (f : ℕ) → f < n → some n (marks-in n rs) ≡ true
     → values n (marks-in n rs) f ≡ below (has (getD rs f no-row)) 1024
-marks-values n rs f l e = values-by n (marks-in n rs) f (has (getD rs f no-row)) l (λ v h. marks-takes n rs f l e v)
+marks-values n rs f l e = values-by n (marks-in n rs) f (has (getD rs f no-row)) l
+    (λ v h. marks-takes n rs f l e v)
 
 -- Membership of one mark
 
@@ -192,4 +199,5 @@ pub number-not-in : (n : ℕ) (rs : List Row) (m : List ℕ) (i : ℕ) → i < l
     → has (getD rs i no-row) (getD m i 0) ≡ false → marks-in n rs m ≡ false
 unfolding marks-in
 number-not-in n rs m i l e =
-    and-right _ _ (⊎-elim (λ t. absurd (both-ways _ e (each-at rs m i t l))) (λ z. z) (cases-bool (each-in rs m)))
+    and-right _ _ (⊎-elim (λ t. absurd (both-ways _ e (each-at rs m i t l))) (λ z. z)
+    (cases-bool (each-in rs m)))

@@ -1,19 +1,18 @@
 -- The sets of the open store: it starts with every mark, and each field keeps its own set of numbers.
 use Prim.Native.Nat.{ℕ}
-use mathlib.Core.Path.{_≡_}
 use mathlib.Core.Bool.{Bool, true, false, _&&_}
 use mathlib.Core.List.{List, [], _∷_}
 use lib.Dec.{eqb, ltb}
-use lib.ListN.{length}
-use denote.Ref.{RefT, now}
+use lib.ListN.{length, set}
 use Rattle.std.specs.Orderings.{Decides}
-use Rattle.std.specs.declared.option.Option.{Option}
-use Rattle.std.specs.declared.option.Option.the-variants.{Some, None}
 use Rattle.marks.specs.Sets.{Marks, Shaped}
-use Rattle.marks.specs.Counted.{values, Takes}
 use Rattle.store.specs.declared.row.Row.{Row}
 use Rattle.store.specs.declared.open.OpenStore.{OpenStore}
-use Rattle.store.specs.Rows.{has, HasTaken}
+use Rattle.store.specs.Rows.{has}
+
+-- the store with row i replaced
+abbrev pub with-row : {R : Type 0} → OpenStore R → ℕ → R → OpenStore R
+with-row s i r = record { width = s .width; rows = set (s .rows) i r; few = s .few }
 
 -- S is the set of every mark of n fields
 abbrev pub HasEvery : ℕ → Marks → Type 0
@@ -45,8 +44,3 @@ open-start s = every-mark (s .width)
 -- the current set of an open store
 abbrev pub open-left : OpenStore Row → Marks
 open-left s = marks-in (s .width) (s .rows)
-
--- the row, if any, has just the numbers that the field takes in S; there is none where the field takes no number
-abbrev pub InRow : (n : ℕ) (S : Marks) (f : ℕ) → Option (RefT Row) → Type 0
-InRow n S f (Some r) = HasTaken n S f (now r)
-InRow n S f None = Takes n S f (values n S f) × (values n S f ≡ [])

@@ -1,13 +1,13 @@
 -- Proof that the open store's sets are sets of marks; it stands here since a ghost member cites it.
 use Prim.Native.Nat.{ℕ, _<_}
 use mathlib.Core.Path.{_≡_, refl, sym}
-use mathlib.Core.Bool.{Bool, true, false, _&&_}
+use mathlib.Core.Bool.{true, false}
 use mathlib.Core.List.{List, [], _∷_}
 use lib.Dec.{eqb, ltb}
 use lib.ListN.{length, getD}
 use Rattle.std.specs.shelf.Lists.{All}
 use Rattle.std.proofs.shelf.Tests.{and-from, and-parts, eqb-true, eq-eqb, lt-ltb, ltb-true, both-ways}
-use Rattle.marks.specs.Sets.{Marks, Shaped, MarksOf}
+use Rattle.marks.specs.Sets.{MarksOf}
 use Rattle.store.specs.declared.row.Row.{Row}
 use Rattle.store.specs.declared.open.OpenStore.{OpenStore}
 use Rattle.store.specs.Rules.{Sound}
@@ -32,9 +32,10 @@ all-are-small (v ∷ m) h = and-from _ _ (lt-ltb v 1024 (h .0)) (all-are-small m
 
 pub every-has : (n : ℕ) → HasEvery n (every-mark n)
 unfolding every-mark
-every-has n m =
-    ((λ e. let p = and-parts (eqb (length m) n) (all-small m) e in (eqb-true _ _ (p .0), small-all m (p .1))),
-     (λ h. and-from _ _ (eq-eqb _ _ (h .0)) (all-are-small m (h .1))))
+every-has n m = (
+  (λ e. let p = and-parts (eqb (length m) n) (all-small m) e in (eqb-true _ _ (p .0), small-all m (p .1))),
+  (λ h. and-from _ _ (eq-eqb _ _ (h .0)) (all-are-small m (h .1))),
+)
 
 pub each-small : (rs : List Row) (m : List ℕ) → each-in rs m ≡ true → all-small m ≡ true
 unfolding all-small each-in
@@ -55,4 +56,7 @@ pub marks-in-of : (n : ℕ) (rs : List Row) → MarksOf n (marks-in n rs)
 marks-in-of n rs m e = every-has n m .0 (marks-every n rs m e)
 
 pub open-sound : Sound {X = OpenStore Row} (λ s. s .width) open-start open-left
-open-sound = record { started = λ s m e. every-has (s .width) m .0 e; left = λ s. marks-in-of (s .width) (s .rows) }
+open-sound = record {
+  started = λ s m e. every-has (s .width) m .0 e;
+  left = λ s. marks-in-of (s .width) (s .rows);
+}

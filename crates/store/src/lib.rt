@@ -3,7 +3,7 @@
 ghost use mathlib.Core.Path.{_≡_};
 ghost use Prim.Native.Nat.{ℕ};
 ghost use Rattle.marks.specs.Sets.{Marks};
-ghost use Rattle.store.specs.Rules.{Sound, Keeps, TellsEmpty, Counts, Answers};
+ghost use Rattle.store.specs.Rules.{Sound, Stays, Keeps, TellsEmpty, Counts, Answers};
 use formula::Comparison;
 use refusal::Refusal;
 
@@ -33,23 +33,25 @@ pub trait Store {
 
     // Makes the current set equal to the starting set.
     fn restart(&mut self)
-        ensures same { λ _. ⌜ (width (now (self .exit)) ≡ width (now (self .entry))) × (starting (now (self .exit)) ≡ starting (now (self .entry))) ⌝ }
+        ensures same { λ _. ⌜ Stays width starting (now (self .entry)) (now (self .exit)) ⌝ }
         ensures left { λ _. ⌜ current (now (self .exit)) ≡ starting (now (self .entry)) ⌝ };
 
-    // Removes exactly the marks whose field fails the comparison with the number.
+    // Removes exactly the marks whose field fails the comparison with the number. Refused, with nothing removed,
+    // for a field that the store has not or a number above 1,023.
     fn keep(&mut self, field: usize, sign: Comparison, number: u16) -> Result<(), Refusal>
-        ensures same { λ _. ⌜ (width (now (self .exit)) ≡ width (now (self .entry))) × (starting (now (self .exit)) ≡ starting (now (self .entry))) ⌝ }
-        ensures left { λ r. ⌜ Keeps (width (now (self .entry))) (current (now (self .entry))) (current (now (self .exit))) field sign number r ⌝ };
+        ensures same { λ _. ⌜ Stays width starting (now (self .entry)) (now (self .exit)) ⌝ }
+        ensures left { λ r. ⌜ Keeps (width (now (self .entry))) (current (now (self .entry)))
+            (current (now (self .exit))) field sign number r ⌝ };
 
     // Whether the current set has no mark.
     fn is_empty(&self) -> bool
         ensures { λ r. ⌜ TellsEmpty (width (now (self .entry))) (current (now (self .entry))) r ⌝ };
 
-    // How many different numbers the field takes in the current set.
+    // How many different numbers the field takes in the current set; 0 for a field that the store has not.
     fn count(&self, field: usize) -> usize
         ensures { λ r. ⌜ Counts (width (now (self .entry))) (current (now (self .entry))) field r ⌝ };
 
-    // The k-th smallest of those numbers, from 0.
+    // The k-th smallest of those numbers, from 0; none exactly when k is not below their count.
     fn value(&self, field: usize, k: usize) -> Option<u16>
         ensures { λ r. ⌜ Answers (width (now (self .entry))) (current (now (self .entry))) field k r ⌝ };
 }

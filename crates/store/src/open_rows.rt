@@ -1,6 +1,9 @@
 // The open store is a store: keep narrows the row of its field.
+ghost use Prim.Native.Nat.{_≤_};
 ghost use mathlib.Core.Path.{_≡_};
-ghost use Rattle.store.specs.Opens.{HasEvery, InRow, open-start, open-left};
+ghost use Rattle.store.specs.Rules.{TellsEmpty};
+ghost use Rattle.store.specs.Opens.{HasEvery, open-start, open-left};
+ghost use Rattle.store.specs.TakenRows.{LendsTaken};
 ghost use Rattle.store.specs.Sounds.{open-sound};
 use crate::GREATEST;
 use crate::Store;
@@ -17,7 +20,20 @@ impl OpenStore {
         ensures starts { λ r. ⌜ HasEvery (now (sheet .entry) .«field_count») (open-start r) ⌝ }
         ensures left { λ r. ⌜ open-left r ≡ open-start r ⌝ }
     {
-        OpenStore { width: sheet.field_count, rows: [Row::full(); 8] }
+        OpenStore::with_every_mark(sheet.field_count)
+    }
+
+    // The open store of so many fields, with every mark.
+    fn with_every_mark(width: usize) -> OpenStore
+        requires { ⌜ (1 ≤ width) × (width ≤ 8) ⌝ }
+        ensures fields { λ r. ⌜ r .width ≡ width ⌝ }
+        ensures starts { λ r. ⌜ HasEvery width (open-start r) ⌝ }
+        ensures left { λ r. ⌜ open-left r ≡ open-start r ⌝ }
+    {
+        OpenStore {
+            width,
+            rows: [Row::full(); 8],
+        }
     }
 
     // Whether the current set has this mark.
@@ -35,11 +51,23 @@ impl OpenStore {
         true
     }
 
-    // The row of the numbers that a field takes in the current set, if it takes any.
-    pub(crate) fn taken(&self, field: usize) -> Option<&Row>
-        ensures { λ r. ⌜ InRow (now (self .entry) .width) (open-left (now (self .entry))) field r ⌝ }
+    // Whether no mark is left: a row that is in use has no number.
+    fn has_empty_row(&self) -> bool
+        ensures { λ r. ⌜ TellsEmpty (now (self .entry) .width) (open-left (now (self .entry))) r ⌝ }
     {
-        if field >= self.width || self.is_empty() {
+        for i in 0..self.width {
+            if !self.rows[i].any() {
+                return true;
+            }
+        }
+        false
+    }
+
+    // The row of the numbers that a field takes in the current set, if it takes any.
+    fn taken(&self, field: usize) -> Option<&Row>
+        ensures { λ r. ⌜ LendsTaken (now (self .entry) .width) (open-left (now (self .entry))) field r ⌝ }
+    {
+        if field >= self.width || self.has_empty_row() {
             return None;
         }
         Some(&self.rows[field])
@@ -60,7 +88,7 @@ pub impl Store for OpenStore as OpenRows {
     }
 
     fn restart(&mut self) {
-        self.rows = [Row::full(); 8];
+        *self = OpenStore::with_every_mark(self.width);
     }
 
     fn keep(&mut self, field: usize, sign: Comparison, number: u16) -> Result<(), Refusal> {
@@ -73,12 +101,7 @@ pub impl Store for OpenStore as OpenRows {
     }
 
     fn is_empty(&self) -> bool {
-        for i in 0..self.width {
-            if !self.rows[i].any() {
-                return true;
-            }
-        }
-        false
+        self.has_empty_row()
     }
 
     fn count(&self, field: usize) -> usize {

@@ -18,21 +18,25 @@ pub struct Row {
 
 impl Row {
     // Every number up to 1,023.
-    pub fn full() -> Row
+    pub(crate) fn full() -> Row
         ensures { λ r. ⌜ ((v : ℕ) → has r v ≡ ltb v 1024) ⌝ }
     {
-        Row { present: [true; 1024] }
+        Row {
+            present: [true; 1024],
+        }
     }
 
     // No number.
     pub fn none() -> Row
         ensures { λ r. ⌜ ((v : ℕ) → has r v ≡ false) ⌝ }
     {
-        Row { present: [false; 1024] }
+        Row {
+            present: [false; 1024],
+        }
     }
 
     // Whether the number is in the row.
-    pub fn holds(&self, number: u16) -> bool
+    pub(crate) fn holds(&self, number: u16) -> bool
         ensures { λ r. ⌜ r ≡ has (now (self .entry)) number ⌝ }
     {
         number < 1024 && self.present[number as usize]
@@ -40,7 +44,8 @@ impl Row {
 
     // Adds a number; one above 1,023 is left out.
     pub fn add(&mut self, number: u16)
-        ensures { λ _. ⌜ ((v : ℕ) → has (now (self .exit)) v ≡ (has (now (self .entry)) v || (ltb v 1024 && eqb number v))) ⌝ }
+        ensures { λ _. ⌜ ((v : ℕ) → has (now (self .exit)) v
+            ≡ (has (now (self .entry)) v || (ltb v 1024 && eqb number v))) ⌝ }
     {
         if number < 1024 {
             self.present[number as usize] = true;
@@ -48,8 +53,9 @@ impl Row {
     }
 
     // Removes the numbers that fail the comparison.
-    pub fn narrow(&mut self, sign: Comparison, number: u16)
-        ensures { λ _. ⌜ ((v : ℕ) → has (now (self .exit)) v ≡ (has (now (self .entry)) v && holds sign v number)) ⌝ }
+    pub(crate) fn narrow(&mut self, sign: Comparison, number: u16)
+        ensures { λ _. ⌜ ((v : ℕ) → has (now (self .exit)) v
+            ≡ (has (now (self .entry)) v && holds sign v number)) ⌝ }
     {
         for v in 0..1024u16 {
             if !sign.holds(v, number) {
@@ -59,7 +65,7 @@ impl Row {
     }
 
     // Whether a number is in the row.
-    pub fn any(&self) -> bool
+    pub(crate) fn any(&self) -> bool
         ensures { λ r. ⌜ r ≡ any-below (has (now (self .entry))) 1024 ⌝ }
     {
         for v in 0..1024usize {

@@ -1,7 +1,7 @@
-use mathlib.Core.Path.{_≡_, refl, sym, ap, subst, _∙_}
+use mathlib.Core.Path.{sym, ap, subst}
 use Rattle.store.specs.Opens.{every-mark}
-use Rattle.register.specs.Registers.{mark-rows, HasRows}
-use Rattle.register.proofs.Registers.{rows-are-marks, left-restarted}
+use Rattle.register.specs.Registers.{is-row, both, HasRows}
+use Rattle.register.proofs.Registers.{rows-are-marks}
 use Rattle.register.proofs.RegisterStore.new.Needs as need
 
 pub returns : need.returns
@@ -9,10 +9,9 @@ returns c =
     let n = c .args .sheet .now .«field_count» in
     let register = c .args .register .now in
     let made = c .new .ensures in
-    let e = made .fields in
     record {
-      fields = e;
-      starts = subst (λ z. HasRows n register (mark-rows register z)) (sym e)
-        (rows-are-marks register n (c .args .sheet .now .«some_fields» .0));
-      left = left-restarted (record { register = c .args .register; allowed = c .new .result }) (c .new .result .width) refl (made .left)
+      fields = made .fields;
+      starts = subst (λ z. HasRows n register (both (is-row register z) (every-mark z))) (sym (made .fields))
+          (rows-are-marks register n (c .args .sheet .now .«some_fields» .0));
+      left = ap (both (is-row register (c .new .result .width))) (made .left);
     }

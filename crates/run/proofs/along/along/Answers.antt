@@ -27,7 +27,8 @@ returns-then-not-begin g c =
     let guide = c .args .guide in
     let s = c .args .store .now in
     let S = st .starting s in
-    let z = way guide (c .args .picks .now) (c .args .widths .now) (c .args .at .now) (waits (c .args .source .now)) in
+    let z = way guide (c .args .picks .now) (c .args .widths .now) (c .args .at .now)
+        (waits (c .args .source .now)) in
     let sh = c .args .sheet .now in
     let t = tree-of sh in
     let n = c .args .fuel in
@@ -40,10 +41,12 @@ returns-then-not-begin g c =
     let wide : fields-of t ≡ st .width s = fields-are sh ∙ sym (c .pre .fields) in
     let B = subst (λ k. MarksOf k S) (sym wide) (st .sound .started s) in
     let within : Inside (st .current T) S = subst (λ Q. Inside Q S) (sym cur) (inside-part S (ranges-of t)) in
-    let gone : some (st .width T) (st .current T) ≡ false = sym (c .begin .ensures .tells) ∙ c .if-not-begin .taken in
+    let gone : some (st .width T) (st .current T) ≡ false = sym (c .begin .ensures .tells) ∙ c .if-not-begin
+        .taken in
     record {
       same = (same .0, same .1, within);
-      left = dead-at-once t n S B z (subst Empty cur (none-empty (st .width T) (st .current T) (st .sound .left T) gone))
+      left = dead-at-once t n S B z (subst Empty cur
+          (none-empty (st .width T) (st .current T) (st .sound .left T) gone));
     }
 
 pub work-requires : need.work-requires
@@ -53,7 +56,8 @@ work-requires g c κs =
     let guide = c .args .guide in
     let s = c .args .store .now in
     let S = st .starting s in
-    let z = way guide (c .args .picks .now) (c .args .widths .now) (c .args .at .now) (waits (c .args .source .now)) in
+    let z = way guide (c .args .picks .now) (c .args .widths .now) (c .args .at .now)
+        (waits (c .args .source .now)) in
     let sh = c .args .sheet .now in
     let t = tree-of sh in
     let n = c .args .fuel in
@@ -67,16 +71,18 @@ work-requires g c κs =
     let B = subst (λ k. MarksOf k S) (sym wide) (st .sound .started s) in
     let within : Inside (st .current T) S = subst (λ Q. Inside Q S) (sym cur) (inside-part S (ranges-of t)) in
     let C = inside-counted t S B in
-    let left : some (st .width T) (st .current T) ≡ true = sym (c .begin .ensures .tells) ∙ c .if-not-begin .left in
+    let left : some (st .width T) (st .current T) ≡ true = sym (c .begin .ensures .tells) ∙ c .if-not-begin
+        .left in
     let alive : Empty I → ⊥ = subst (λ Q. Empty Q → ⊥) cur (some-alive (st .width T) (st .current T) left) in
     let eight : fields-of t ≤ 8 = omega (arith, fields-are sh, sh .«some_fields») in
-    let room = run-fits t n S B z (c .pre .begun) (few-joins sh) (omega (arith, c .pre .picks, eight)) (omega (arith, c .pre .widths, eight)) in
+    let room = run-fits t n S B z (c .pre .begun) (few-joins sh) (omega (arith, c .pre .picks, eight))
+        (omega (arith, c .pre .widths, eight)) in
     record {
       fields = same .0 ∙ c .pre .fields;
       some = left;
       goals = c .pre .goals;
       frames = c .pre .frames;
-      room = subst (λ Q. Fits z (Matching rules F n Q)) (sym cur) (match-fits t n S B C alive z room)
+      room = subst (λ Q. Fits z (Matching rules F n Q)) (sym cur) (match-fits t n S B C alive z room);
     }
 
 pub returns-in-Halted : need.returns-in-Halted
@@ -86,7 +92,8 @@ returns-in-Halted g c =
     let guide = c .args .guide in
     let s = c .args .store .now in
     let S = st .starting s in
-    let z = way guide (c .args .picks .now) (c .args .widths .now) (c .args .at .now) (waits (c .args .source .now)) in
+    let z = way guide (c .args .picks .now) (c .args .widths .now) (c .args .at .now)
+        (waits (c .args .source .now)) in
     let sh = c .args .sheet .now in
     let t = tree-of sh in
     let n = c .args .fuel in
@@ -100,12 +107,15 @@ returns-in-Halted g c =
     let B = subst (λ k. MarksOf k S) (sym wide) (st .sound .started s) in
     let within : Inside (st .current T) S = subst (λ Q. Inside Q S) (sym cur) (inside-part S (ranges-of t)) in
     let C = inside-counted t S B in
-    let left : some (st .width T) (st .current T) ≡ true = sym (c .begin .ensures .tells) ∙ c .if-not-begin .left in
+    let left : some (st .width T) (st .current T) ≡ true = sym (c .begin .ensures .tells) ∙ c .if-not-begin
+        .left in
     let alive : Empty I → ⊥ = subst (λ Q. Empty Q → ⊥) cur (some-alive (st .width T) (st .current T) left) in
     let eight : fields-of t ≤ 8 = omega (arith, fields-are sh, sh .«some_fields») in
-    let room = run-fits t n S B z (c .pre .begun) (few-joins sh) (omega (arith, c .pre .picks, eight)) (omega (arith, c .pre .widths, eight)) in
+    let room = run-fits t n S B z (c .pre .begun) (few-joins sh) (omega (arith, c .pre .picks, eight))
+        (omega (arith, c .pre .widths, eight)) in
     let P = st .current (c .work .last .store) in
-    let y = way guide (c .work .last .picks) (c .work .last .widths) (c .work .last .at) (waits (c .work .last .source)) in
+    let y = way guide (c .work .last .picks) (c .work .last .widths) (c .work .last .at)
+        (waits (c .work .last .source)) in
     let worked = c .work .ensures .same in
     let sw = worked .0 ∙ same .0 in
     let ss = worked .1 ∙ same .1 in
@@ -120,7 +130,8 @@ returns-in-Dead g c =
     let guide = c .args .guide in
     let s = c .args .store .now in
     let S = st .starting s in
-    let z = way guide (c .args .picks .now) (c .args .widths .now) (c .args .at .now) (waits (c .args .source .now)) in
+    let z = way guide (c .args .picks .now) (c .args .widths .now) (c .args .at .now)
+        (waits (c .args .source .now)) in
     let sh = c .args .sheet .now in
     let t = tree-of sh in
     let n = c .args .fuel in
@@ -134,12 +145,15 @@ returns-in-Dead g c =
     let B = subst (λ k. MarksOf k S) (sym wide) (st .sound .started s) in
     let within : Inside (st .current T) S = subst (λ Q. Inside Q S) (sym cur) (inside-part S (ranges-of t)) in
     let C = inside-counted t S B in
-    let left : some (st .width T) (st .current T) ≡ true = sym (c .begin .ensures .tells) ∙ c .if-not-begin .left in
+    let left : some (st .width T) (st .current T) ≡ true = sym (c .begin .ensures .tells) ∙ c .if-not-begin
+        .left in
     let alive : Empty I → ⊥ = subst (λ Q. Empty Q → ⊥) cur (some-alive (st .width T) (st .current T) left) in
     let eight : fields-of t ≤ 8 = omega (arith, fields-are sh, sh .«some_fields») in
-    let room = run-fits t n S B z (c .pre .begun) (few-joins sh) (omega (arith, c .pre .picks, eight)) (omega (arith, c .pre .widths, eight)) in
+    let room = run-fits t n S B z (c .pre .begun) (few-joins sh) (omega (arith, c .pre .picks, eight))
+        (omega (arith, c .pre .widths, eight)) in
     let P = st .current (c .work .last .store) in
-    let y = way guide (c .work .last .picks) (c .work .last .widths) (c .work .last .at) (waits (c .work .last .source)) in
+    let y = way guide (c .work .last .picks) (c .work .last .widths) (c .work .last .at)
+        (waits (c .work .last .source)) in
     let worked = c .work .ensures .same in
     let sw = worked .0 ∙ same .0 in
     let ss = worked .1 ∙ same .1 in
@@ -154,7 +168,8 @@ returns-in-Spent g c =
     let guide = c .args .guide in
     let s = c .args .store .now in
     let S = st .starting s in
-    let z = way guide (c .args .picks .now) (c .args .widths .now) (c .args .at .now) (waits (c .args .source .now)) in
+    let z = way guide (c .args .picks .now) (c .args .widths .now) (c .args .at .now)
+        (waits (c .args .source .now)) in
     let sh = c .args .sheet .now in
     let t = tree-of sh in
     let n = c .args .fuel in
@@ -168,12 +183,15 @@ returns-in-Spent g c =
     let B = subst (λ k. MarksOf k S) (sym wide) (st .sound .started s) in
     let within : Inside (st .current T) S = subst (λ Q. Inside Q S) (sym cur) (inside-part S (ranges-of t)) in
     let C = inside-counted t S B in
-    let left : some (st .width T) (st .current T) ≡ true = sym (c .begin .ensures .tells) ∙ c .if-not-begin .left in
+    let left : some (st .width T) (st .current T) ≡ true = sym (c .begin .ensures .tells) ∙ c .if-not-begin
+        .left in
     let alive : Empty I → ⊥ = subst (λ Q. Empty Q → ⊥) cur (some-alive (st .width T) (st .current T) left) in
     let eight : fields-of t ≤ 8 = omega (arith, fields-are sh, sh .«some_fields») in
-    let room = run-fits t n S B z (c .pre .begun) (few-joins sh) (omega (arith, c .pre .picks, eight)) (omega (arith, c .pre .widths, eight)) in
+    let room = run-fits t n S B z (c .pre .begun) (few-joins sh) (omega (arith, c .pre .picks, eight))
+        (omega (arith, c .pre .widths, eight)) in
     let P = st .current (c .work .last .store) in
-    let y = way guide (c .work .last .picks) (c .work .last .widths) (c .work .last .at) (waits (c .work .last .source)) in
+    let y = way guide (c .work .last .picks) (c .work .last .widths) (c .work .last .at)
+        (waits (c .work .last .source)) in
     let worked = c .work .ensures .same in
     let sw = worked .0 ∙ same .0 in
     let ss = worked .1 ∙ same .1 in
@@ -188,7 +206,8 @@ finish-requires g c κs =
     let guide = c .args .guide in
     let s = c .args .store .now in
     let S = st .starting s in
-    let z = way guide (c .args .picks .now) (c .args .widths .now) (c .args .at .now) (waits (c .args .source .now)) in
+    let z = way guide (c .args .picks .now) (c .args .widths .now) (c .args .at .now)
+        (waits (c .args .source .now)) in
     let sh = c .args .sheet .now in
     let t = tree-of sh in
     let n = c .args .fuel in
@@ -202,12 +221,15 @@ finish-requires g c κs =
     let B = subst (λ k. MarksOf k S) (sym wide) (st .sound .started s) in
     let within : Inside (st .current T) S = subst (λ Q. Inside Q S) (sym cur) (inside-part S (ranges-of t)) in
     let C = inside-counted t S B in
-    let left : some (st .width T) (st .current T) ≡ true = sym (c .begin .ensures .tells) ∙ c .if-not-begin .left in
+    let left : some (st .width T) (st .current T) ≡ true = sym (c .begin .ensures .tells) ∙ c .if-not-begin
+        .left in
     let alive : Empty I → ⊥ = subst (λ Q. Empty Q → ⊥) cur (some-alive (st .width T) (st .current T) left) in
     let eight : fields-of t ≤ 8 = omega (arith, fields-are sh, sh .«some_fields») in
-    let room = run-fits t n S B z (c .pre .begun) (few-joins sh) (omega (arith, c .pre .picks, eight)) (omega (arith, c .pre .widths, eight)) in
+    let room = run-fits t n S B z (c .pre .begun) (few-joins sh) (omega (arith, c .pre .picks, eight))
+        (omega (arith, c .pre .widths, eight)) in
     let P = st .current (c .work .last .store) in
-    let y = way guide (c .work .last .picks) (c .work .last .widths) (c .work .last .at) (waits (c .work .last .source)) in
+    let y = way guide (c .work .last .picks) (c .work .last .widths) (c .work .last .at)
+        (waits (c .work .last .source)) in
     let worked = c .work .ensures .same in
     let sw = worked .0 ∙ same .0 in
     let ss = worked .1 ∙ same .1 in
@@ -217,7 +239,8 @@ finish-requires g c κs =
     record {
       few = omega (arith, long, eight);
       some = subst (λ q. some q P ≡ true) (sym (worked .0)) (k .alive);
-      room = subst (λ q. Fits y (Ending 0 q P)) (sym long) (end-fits t n S B C alive z (k .fuel) P y (k .took) room)
+      room = subst (λ q. Fits y (Ending 0 q P)) (sym long)
+          (end-fits t n S B C alive z (k .fuel) P y (k .took) room);
     }
 
 pub returns-in-None : need.returns-in-None
@@ -227,7 +250,8 @@ returns-in-None g c =
     let guide = c .args .guide in
     let s = c .args .store .now in
     let S = st .starting s in
-    let z = way guide (c .args .picks .now) (c .args .widths .now) (c .args .at .now) (waits (c .args .source .now)) in
+    let z = way guide (c .args .picks .now) (c .args .widths .now) (c .args .at .now)
+        (waits (c .args .source .now)) in
     let sh = c .args .sheet .now in
     let t = tree-of sh in
     let n = c .args .fuel in
@@ -241,12 +265,15 @@ returns-in-None g c =
     let B = subst (λ k. MarksOf k S) (sym wide) (st .sound .started s) in
     let within : Inside (st .current T) S = subst (λ Q. Inside Q S) (sym cur) (inside-part S (ranges-of t)) in
     let C = inside-counted t S B in
-    let left : some (st .width T) (st .current T) ≡ true = sym (c .begin .ensures .tells) ∙ c .if-not-begin .left in
+    let left : some (st .width T) (st .current T) ≡ true = sym (c .begin .ensures .tells) ∙ c .if-not-begin
+        .left in
     let alive : Empty I → ⊥ = subst (λ Q. Empty Q → ⊥) cur (some-alive (st .width T) (st .current T) left) in
     let eight : fields-of t ≤ 8 = omega (arith, fields-are sh, sh .«some_fields») in
-    let room = run-fits t n S B z (c .pre .begun) (few-joins sh) (omega (arith, c .pre .picks, eight)) (omega (arith, c .pre .widths, eight)) in
+    let room = run-fits t n S B z (c .pre .begun) (few-joins sh) (omega (arith, c .pre .picks, eight))
+        (omega (arith, c .pre .widths, eight)) in
     let P = st .current (c .work .last .store) in
-    let y = way guide (c .work .last .picks) (c .work .last .widths) (c .work .last .at) (waits (c .work .last .source)) in
+    let y = way guide (c .work .last .picks) (c .work .last .widths) (c .work .last .at)
+        (waits (c .work .last .source)) in
     let worked = c .work .ensures .same in
     let sw = worked .0 ∙ same .0 in
     let ss = worked .1 ∙ same .1 in
@@ -254,11 +281,13 @@ returns-in-None g c =
     let k = subst (λ Q. Worked (st .width T) rules F n Q z Moved P y) cur (c .in-Moved .ensures tt .left) in
     let long : st .width (c .work .last .store) ≡ fields-of t = sw ∙ sym wide in
     let Q = st .current (c .finish .last .store) in
-    let y′ = way guide (c .finish .last .picks) (c .finish .last .widths) (c .finish .last .at) (waits (c .finish .last .source)) in
+    let y′ = way guide (c .finish .last .picks) (c .finish .last .widths) (c .finish .last .at)
+        (waits (c .finish .last .source)) in
     let ended = c .finish .ensures .same in
     record {
       same = (ended .0 ∙ sw, ended .1 ∙ ss, λ m h. inner m (ended .2 m h));
-      left = end-halt t n S B C alive z (k .fuel) P y (k .took) y′ (subst (λ q. Finished q P y None Q y′) long (c .in-None .ensures tt .left))
+      left = end-halt t n S B C alive z (k .fuel) P y (k .took) y′
+          (subst (λ q. Finished q P y None Q y′) long (c .in-None .ensures tt .left));
     }
 
 pub returns-in-Some : need.returns-in-Some
@@ -268,7 +297,8 @@ returns-in-Some g c =
     let guide = c .args .guide in
     let s = c .args .store .now in
     let S = st .starting s in
-    let z = way guide (c .args .picks .now) (c .args .widths .now) (c .args .at .now) (waits (c .args .source .now)) in
+    let z = way guide (c .args .picks .now) (c .args .widths .now) (c .args .at .now)
+        (waits (c .args .source .now)) in
     let sh = c .args .sheet .now in
     let t = tree-of sh in
     let n = c .args .fuel in
@@ -282,12 +312,15 @@ returns-in-Some g c =
     let B = subst (λ k. MarksOf k S) (sym wide) (st .sound .started s) in
     let within : Inside (st .current T) S = subst (λ Q. Inside Q S) (sym cur) (inside-part S (ranges-of t)) in
     let C = inside-counted t S B in
-    let left : some (st .width T) (st .current T) ≡ true = sym (c .begin .ensures .tells) ∙ c .if-not-begin .left in
+    let left : some (st .width T) (st .current T) ≡ true = sym (c .begin .ensures .tells) ∙ c .if-not-begin
+        .left in
     let alive : Empty I → ⊥ = subst (λ Q. Empty Q → ⊥) cur (some-alive (st .width T) (st .current T) left) in
     let eight : fields-of t ≤ 8 = omega (arith, fields-are sh, sh .«some_fields») in
-    let room = run-fits t n S B z (c .pre .begun) (few-joins sh) (omega (arith, c .pre .picks, eight)) (omega (arith, c .pre .widths, eight)) in
+    let room = run-fits t n S B z (c .pre .begun) (few-joins sh) (omega (arith, c .pre .picks, eight))
+        (omega (arith, c .pre .widths, eight)) in
     let P = st .current (c .work .last .store) in
-    let y = way guide (c .work .last .picks) (c .work .last .widths) (c .work .last .at) (waits (c .work .last .source)) in
+    let y = way guide (c .work .last .picks) (c .work .last .widths) (c .work .last .at)
+        (waits (c .work .last .source)) in
     let worked = c .work .ensures .same in
     let sw = worked .0 ∙ same .0 in
     let ss = worked .1 ∙ same .1 in
@@ -295,10 +328,12 @@ returns-in-Some g c =
     let k = subst (λ Q. Worked (st .width T) rules F n Q z Moved P y) cur (c .in-Moved .ensures tt .left) in
     let long : st .width (c .work .last .store) ≡ fields-of t = sw ∙ sym wide in
     let Q = st .current (c .finish .last .store) in
-    let y′ = way guide (c .finish .last .picks) (c .finish .last .widths) (c .finish .last .at) (waits (c .finish .last .source)) in
+    let y′ = way guide (c .finish .last .picks) (c .finish .last .widths) (c .finish .last .at)
+        (waits (c .finish .last .source)) in
     let ended = c .finish .ensures .same in
     record {
       same = (ended .0 ∙ sw, ended .1 ∙ ss, λ m h. inner m (ended .2 m h));
-      left = end-mark t n S B C alive z (k .fuel) P y (k .took) (take (fields-of t) (c .in-Some .numbers)) Q y′
-        (subst (λ q. Finished q P y (Some (c .in-Some .numbers)) Q y′) long (c .in-Some .ensures tt .left))
+      left = end-mark t n S B C alive z (k .fuel) P y (k .took) (take (fields-of t) (c .in-Some .numbers)) Q
+          y′
+          (subst (λ q. Finished q P y (Some (c .in-Some .numbers)) Q y′) long (c .in-Some .ensures tt .left));
     }

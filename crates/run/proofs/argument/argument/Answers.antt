@@ -20,4 +20,5 @@ returns-in-Param c =
     let k = subst (KnownIn (c .args .frame .count)) (c .in-Param .is) (c .pre .known) in
     let l : p < length xs = omega (arith, c .pre .few, k) in
     subst (λ q. Stands (c .args .frame) q (getD xs p (Field 0))) (sym (c .in-Param .is))
-    (record { is = argument-at xs (c .args .frame .count) p k l; okay = λ w f n. f .each p (omega (arith, c .pre .few, k)) })
+    (record { is = argument-at xs (c .args .frame .count) p k l; okay = λ w f n. f .each p
+        (omega (arith, c .pre .few, k)) })

@@ -15,7 +15,8 @@ returns-then-count-eq1 g c =
     let s = c .args .store .now in
     let ok = subst (Okay (st .width s)) (c .in-Field .is) (c .pre .okay) in
     subst (λ q. Knows (st .current s) (argument-of q) (c .value .result)) (sym (c .in-Field .is))
-    (knows-one (st .width s) (st .current s) (c .in-Field .f) (st .sound .left s) ok (c .value .result) (sym (c .count .ensures .1) ∙ c .if-count-eq1 .taken) (c .value .ensures .1))
+    (knows-one (st .width s) (st .current s) (c .in-Field .f) (st .sound .left s) ok (c .value .result)
+        (sym (c .count .ensures .1) ∙ c .if-count-eq1 .taken) (c .value .ensures .1))
 
 pub returns-else-count-eq1 : need.returns-else-count-eq1
 returns-else-count-eq1 g c =
@@ -23,4 +24,5 @@ returns-else-count-eq1 g c =
     let s = c .args .store .now in
     let ok = subst (Okay (st .width s)) (c .in-Field .is) (c .pre .okay) in
     subst (λ q. Unknown (st .current s) (argument-of q)) (sym (c .in-Field .is))
-    (knows-not (st .width s) (st .current s) (c .in-Field .f) (st .sound .left s) ok (omega (arith, c .count .ensures .1, c .if-count-eq1 .left)))
+    (knows-not (st .width s) (st .current s) (c .in-Field .f) (st .sound .left s) ok
+        (omega (arith, c .count .ensures .1, c .if-count-eq1 .left)))

@@ -16,14 +16,17 @@ settle-requires g c κs =
     let waits = g .R·Source .waiting in
     let guide = c .args .guide in
     let s = c .args .store .now in
-    let z = way guide (c .args .picks .now) (c .args .widths .now) (c .args .at .now) (waits (c .args .source .now)) in
+    let z = way guide (c .args .picks .now) (c .args .widths .now) (c .args .at .now)
+        (waits (c .args .source .now)) in
     let e = arguments-of (c .args .frame) in
     let ok = subst (TermOkay (st .width s) (c .args .frame .count)) (c .in-Moved .is) (c .pre .okay) in
     let r = c .argument-in-Moved .ensures in
     record {
       okay = r .okay (st .width s) (c .pre .frame) (ok .0);
       some = c .pre .some;
-      room = resolve-fits (st .width s) e (st .current s) z (name-of (c .in-Moved .y)) (shift-of (c .in-Moved .d)) (c .argument-in-Moved .result) (r .is) (subst (λ q. Fits z (Resolving e (st .current s) (term-of q))) (c .in-Moved .is) (c .pre .room))
+      room = resolve-fits (st .width s) e (st .current s) z (name-of (c .in-Moved .y))
+          (shift-of (c .in-Moved .d)) (c .argument-in-Moved .result) (r .is)
+          (subst (λ q. Fits z (Resolving e (st .current s) (term-of q))) (c .in-Moved .is) (c .pre .room));
     }
 
 pub returns-in-Number : need.returns-in-Number
@@ -32,11 +35,16 @@ returns-in-Number g c =
     let waits = g .R·Source .waiting in
     let guide = c .args .guide in
     let s = c .args .store .now in
-    let z = way guide (c .args .picks .now) (c .args .widths .now) (c .args .at .now) (waits (c .args .source .now)) in
+    let z = way guide (c .args .picks .now) (c .args .widths .now) (c .args .at .now)
+        (waits (c .args .source .now)) in
     let e = arguments-of (c .args .frame) in
     let ok = subst (TermOkay (st .width s) (c .args .frame .count)) (c .in-Number .is) (c .pre .okay) in
-    record { same = (refl, refl, λ m h. h);
-      left = subst (λ q. Resolved (st .width s) e (st .current s) (term-of q) z (Some (Number (c .in-Number .n))) (st .current s) z) (sym (c .in-Number .is)) (resolve-number (st .width s) e (st .current s) z (c .in-Number .n) ok (c .pre .some)) }
+    record {
+      same = (refl, refl, λ m h. h);
+      left = subst (λ q. Resolved (st .width s) e (st .current s) (term-of q) z
+          (Some (Number (c .in-Number .n))) (st .current s) z) (sym (c .in-Number .is))
+          (resolve-number (st .width s) e (st .current s) z (c .in-Number .n) ok (c .pre .some));
+    }
 
 pub returns-in-Bare : need.returns-in-Bare
 returns-in-Bare g c =
@@ -44,12 +52,18 @@ returns-in-Bare g c =
     let waits = g .R·Source .waiting in
     let guide = c .args .guide in
     let s = c .args .store .now in
-    let z = way guide (c .args .picks .now) (c .args .widths .now) (c .args .at .now) (waits (c .args .source .now)) in
+    let z = way guide (c .args .picks .now) (c .args .widths .now) (c .args .at .now)
+        (waits (c .args .source .now)) in
     let e = arguments-of (c .args .frame) in
     let ok = subst (TermOkay (st .width s) (c .args .frame .count)) (c .in-Bare .is) (c .pre .okay) in
     let r = c .argument .ensures in
-    record { same = (refl, refl, λ m h. h);
-      left = subst (λ q. Resolved (st .width s) e (st .current s) (term-of q) z (Some (c .argument .result)) (st .current s) z) (sym (c .in-Bare .is)) (resolve-bare (st .width s) e (st .current s) z (name-of (c .in-Bare .y)) (c .argument .result) (r .is) (r .okay (st .width s) (c .pre .frame) ok) (c .pre .some)) }
+    record {
+      same = (refl, refl, λ m h. h);
+      left = subst (λ q. Resolved (st .width s) e (st .current s) (term-of q) z (Some (c .argument .result))
+          (st .current s) z) (sym (c .in-Bare .is))
+          (resolve-bare (st .width s) e (st .current s) z (name-of (c .in-Bare .y)) (c .argument .result)
+          (r .is) (r .okay (st .width s) (c .pre .frame) ok) (c .pre .some));
+    }
 
 pub returns-in-Some : need.returns-in-Some
 returns-in-Some g c =
@@ -57,14 +71,22 @@ returns-in-Some g c =
     let waits = g .R·Source .waiting in
     let guide = c .args .guide in
     let s = c .args .store .now in
-    let z = way guide (c .args .picks .now) (c .args .widths .now) (c .args .at .now) (waits (c .args .source .now)) in
-    let y = way guide (c .settle .last .picks) (c .settle .last .widths) (c .settle .last .at) (waits (c .settle .last .source)) in
+    let z = way guide (c .args .picks .now) (c .args .widths .now) (c .args .at .now)
+        (waits (c .args .source .now)) in
+    let y = way guide (c .settle .last .picks) (c .settle .last .widths) (c .settle .last .at)
+        (waits (c .settle .last .source)) in
     let P = st .current (c .settle .last .store) in
     let e = arguments-of (c .args .frame) in
     let r = c .argument-in-Moved .ensures in
-    record { same = c .settle .ensures .same;
-      left = subst (λ q. Resolved (st .width s) e (st .current s) (term-of q) z (Some (Number (c .shifted .result))) P y) (sym (c .in-Moved .is))
-        (resolve-moved (st .width s) e (st .current s) z (name-of (c .in-Moved .y)) (shift-of (c .in-Moved .d)) (c .argument-in-Moved .result) (r .is) (c .in-Some .v) (c .shifted .result) P y (c .in-Some .ensures tt .left) (c .shifted .ensures .0) (c .shifted .ensures .1)) }
+    record {
+      same = c .settle .ensures .same;
+      left = subst (λ q. Resolved (st .width s) e (st .current s) (term-of q) z
+          (Some (Number (c .shifted .result))) P y) (sym (c .in-Moved .is))
+          (resolve-moved (st .width s) e (st .current s) z (name-of (c .in-Moved .y))
+              (shift-of (c .in-Moved .d)) (c .argument-in-Moved .result) (r .is) (c .in-Some .v)
+              (c .shifted .result) P y (c .in-Some .ensures tt .left) (c .shifted .ensures .0)
+              (c .shifted .ensures .1));
+    }
 
 pub returns-in-None : need.returns-in-None
 returns-in-None g c =
@@ -72,14 +94,21 @@ returns-in-None g c =
     let waits = g .R·Source .waiting in
     let guide = c .args .guide in
     let s = c .args .store .now in
-    let z = way guide (c .args .picks .now) (c .args .widths .now) (c .args .at .now) (waits (c .args .source .now)) in
-    let y = way guide (c .settle .last .picks) (c .settle .last .widths) (c .settle .last .at) (waits (c .settle .last .source)) in
+    let z = way guide (c .args .picks .now) (c .args .widths .now) (c .args .at .now)
+        (waits (c .args .source .now)) in
+    let y = way guide (c .settle .last .picks) (c .settle .last .widths) (c .settle .last .at)
+        (waits (c .settle .last .source)) in
     let P = st .current (c .settle .last .store) in
     let e = arguments-of (c .args .frame) in
     let r = c .argument-in-Moved .ensures in
-    record { same = c .settle .ensures .same;
-      left = subst (λ q. Resolved (st .width s) e (st .current s) (term-of q) z None P y) (sym (c .in-Moved .is))
-        (resolve-halt (st .width s) e (st .current s) z (name-of (c .in-Moved .y)) (shift-of (c .in-Moved .d)) (c .argument-in-Moved .result) (r .is) P y (c .in-None .ensures tt .left)) }
+    record {
+      same = c .settle .ensures .same;
+      left = subst (λ q. Resolved (st .width s) e (st .current s) (term-of q) z None P y)
+          (sym (c .in-Moved .is))
+          (resolve-halt (st .width s) e (st .current s) z (name-of (c .in-Moved .y))
+              (shift-of (c .in-Moved .d)) (c .argument-in-Moved .result) (r .is) P y
+              (c .in-None .ensures tt .left));
+    }
 
 pub argument-requires : need.argument-requires
 argument-requires g c κs =

@@ -13,8 +13,10 @@ returns g c =
     let P = st .current t in
     let f = c .args .field in
     let same = c .keep .ensures .same in
-    let is = keeps-kept (st .width s) S P f (c .args .sign) (c .args .number) (c .keep .result) (c .keep .ensures .left) (c .pre .field) (c .pre .number) in
+    let is = keeps-kept (st .width s) S P f (c .args .sign) (c .args .number) (c .keep .result)
+        (c .keep .ensures .left) (c .pre .field) (c .pre .number) in
     record {
       same = (same .0, same .1, kept-inside S P f (c .args .sign) (c .args .number) is);
-      left = record { is = is; tells = ap not (c .is-empty .ensures .1) ∙ Bool·not-not _ ∙ ap (λ q. some q P) (same .0) }
+      left = record { is = is; tells = ap not (c .is-empty .ensures .1) ∙ Bool·not-not _ ∙ ap (λ q. some q P)
+          (same .0) };
     }

@@ -37,14 +37,20 @@ loop-i-again g c =
     let r = range-at (sh .ranges) i in
     let less : i < sh .«field_count» = omega (arith, c .loop-i-test .taken) in
     let ok = sh .«ranges_kept» i less in
-    let here : i < st .width (c .loop-i .store) = omega (arith, inv .0, c .restart .ensures .same .0, c .pre .fields, less) in
+    let here : i < st .width (c .loop-i .store) = omega
+        (arith, inv .0, c .restart .ensures .same .0, c .pre .fields, less) in
     let next : i < st .width (c .keep .last .self) = omega (arith, here, a .same .0) in
-    let low = keeps-kept (st .width (c .loop-i .store)) S Q i AtLeast (r .low) (c .keep .result) (a .left) here (omega (arith, ok)) in
-    let high = keeps-kept (st .width (c .keep .last .self)) Q P i AtMost (r .high) (c .keep-in-loop-i .result) (b .left) next (omega (arith, ok)) in
-    (b .same .0 ∙ a .same .0 ∙ inv .0, b .same .1 ∙ a .same .1 ∙ inv .1,
-     high ∙ ap (λ X. kept X i AtMost (r .high)) low
-     ∙ begin-more (st .starting t) S (sh .ranges) i (omega (arith, sh .long, sh .«some_fields», less)) (inv .2)
-     ∙ ap (λ k. inside (st .starting t) (map range-of (take k (sh .ranges)))) (sym (add-one i)))
+    let low = keeps-kept (st .width (c .loop-i .store)) S Q i AtLeast (r .low) (c .keep .result) (a .left)
+        here (omega (arith, ok)) in
+    let high = keeps-kept (st .width (c .keep .last .self)) Q P i AtMost (r .high) (c .keep-in-loop-i .result)
+        (b .left) next (omega (arith, ok)) in (
+      b .same .0 ∙ a .same .0 ∙ inv .0,
+      b .same .1 ∙ a .same .1 ∙ inv .1,
+      high ∙ ap (λ X. kept X i AtMost (r .high)) low
+          ∙ begin-more (st .starting t) S (sh .ranges) i (omega (arith, sh .long, sh .«some_fields», less))
+              (inv .2)
+          ∙ ap (λ k. inside (st .starting t) (map range-of (take k (sh .ranges)))) (sym (add-one i)),
+    )
 
 pub returns : need.returns
 returns g c =
@@ -57,8 +63,9 @@ returns g c =
     record {
       same = (inv .0 ∙ e .0, inv .1 ∙ e .1);
       left =
-        inv .2 ∙ ap (λ k. inside (st .starting (c .restart .last .self)) (map range-of (take k (sh .ranges)))) all
-        ∙ ap (λ B. inside B (map range-of (take (sh .«field_count») (sh .ranges)))) (e .1)
-        ∙ ap (inside (st .starting (c .args .store .now))) (sym (ranges-are sh));
-      tells = ap not (c .is-empty .ensures .1) ∙ Bool·not-not _
+          inv .2 ∙ ap (λ k. inside (st .starting (c .restart .last .self))
+              (map range-of (take k (sh .ranges)))) all
+          ∙ ap (λ B. inside B (map range-of (take (sh .«field_count») (sh .ranges)))) (e .1)
+          ∙ ap (inside (st .starting (c .args .store .now))) (sym (ranges-are sh));
+      tells = ap not (c .is-empty .ensures .1) ∙ Bool·not-not _;
     }

@@ -10,4 +10,5 @@ Inv-loop-i g l =
     let st = g .S·Store in
     (st .width (l .store) ≡ st .width (l .entry .store))
     × (st .starting (l .store) ≡ st .starting (l .entry .store))
-    × (st .current (l .store) ≡ inside (st .starting (l .entry .store)) (map range-of (take (l .i) (l .sheet .ranges))))
+    × (st .current (l .store) ≡ inside (st .starting (l .entry .store))
+        (map range-of (take (l .i) (l .sheet .ranges))))

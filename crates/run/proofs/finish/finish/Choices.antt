@@ -19,4 +19,6 @@ Inv-loop-i g l =
     × Inside (st .current (l .store)) (st .current (l .entry .store))
     × (length (l .made) ≡ 8)
     × (some w (st .current (l .store)) ≡ true)
-    × Took (way guide (l .entry .picks) (l .entry .widths) (l .entry .at) (waits (l .entry .source))) (EndLeads w (st .current (l .entry .store)) (l .i) (w - l .i) (st .current (l .store)) (take (l .i) (l .made))) (way guide (l .picks) (l .widths) (l .at) (waits (l .source)))
+    × Took (way guide (l .entry .picks) (l .entry .widths) (l .entry .at) (waits (l .entry .source)))
+        (EndLeads w (st .current (l .entry .store)) (l .i) (w - l .i) (st .current (l .store))
+        (take (l .i) (l .made))) (way guide (l .picks) (l .widths) (l .at) (waits (l .source)))

@@ -20,7 +20,8 @@ loop-i-again c =
     let e : i ≡ 0 + i = omega arith in
     ap (λ q. set q i (getD vs i 0)) (c .loop-i .inv)
     ∙ ap (λ k. set (paste m 0 vs i) k (getD vs i 0)) e
-    ∙ paste-suc m 0 vs i 0 (omega (arith, c .pre .room, c .loop-i-test .taken)) (omega (arith, c .pre .few, c .loop-i-test .taken))
+    ∙ paste-suc m 0 vs i 0 (omega (arith, c .pre .room, c .loop-i-test .taken))
+        (omega (arith, c .pre .few, c .loop-i-test .taken))
     ∙ ap (paste m 0 vs) (sym (add-one i))
 
 pub returns : need.returns

@@ -17,6 +17,7 @@ returns-in-Mark c =
     let filled = c .fill .ensures in
     let eight : length vs ≡ 8 = omega arith in
     let len = length-take-le n vs (omega (arith, c .pre .few)) in
-    let front = ap (take n) filled ∙ take-at (take n vs) (drop (length (take n vs)) m) n len in
-    (ap (λ e. end-of e n) (c .in-Mark .is) ∙ ap (λ q. Some (mark q)) (sym front),
-     filled ∙ ap (λ q. over q m) (sym front))
+    let front = ap (take n) filled ∙ take-at (take n vs) (drop (length (take n vs)) m) n len in (
+      ap (λ e. end-of e n) (c .in-Mark .is) ∙ ap (λ q. Some (mark q)) (sym front),
+      filled ∙ ap (λ q. over q m) (sym front),
+    )

@@ -18,8 +18,10 @@ returns g c =
     let ns = g .R·Source .waiting (c .args .source .now) in
     let rest = g .R·Source .waiting (c .tell .last .source) in
     let d = choice-of (c .args .choice) in
-    let t = c .in-Some .ensures tt in
-    (t .0,
-     subst (λ h. Picks (ahead u ps ws k ns) d p h)
-     (sym (ap (λ i. ahead u (set ps k p) (set ws k w) i rest) (add-one k) ∙ ahead-set u ps ws k p w rest)) (t .1),
-     (λ j. trail (set ps k p) (set ws k (c .width .ensures j)) (add-one k j)))
+    let t = c .in-Some .ensures tt in (
+      t .0,
+      subst (λ h. Picks (ahead u ps ws k ns) d p h)
+          (sym (ap (λ i. ahead u (set ps k p) (set ws k w) i rest) (add-one k) ∙ ahead-set u ps ws k p w
+              rest)) (t .1),
+      (λ j. trail (set ps k p) (set ws k (c .width .ensures j)) (add-one k j)),
+    )

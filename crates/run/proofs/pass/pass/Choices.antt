@@ -22,4 +22,7 @@ Inv-loop-i g l =
     × (length (l .made .arguments) ≡ 4)
     × ((j : ℕ) → j < 4 → Okay (st .width (l .entry .store)) (getD (l .made .arguments) j (Field 0)))
     × (some (st .width (l .entry .store)) (st .current (l .store)) ≡ true)
-    × Took (way guide (l .entry .picks) (l .entry .widths) (l .entry .at) (waits (l .entry .source))) (PassLeads (arguments-of (l .frame)) (st .current (l .entry .store)) (terms (l .ts) (l .n)) (st .current (l .store)) (from (l .ts) (l .i) (l .n - l .i)) (l .made)) (way guide (l .picks) (l .widths) (l .at) (waits (l .source)))
+    × Took (way guide (l .entry .picks) (l .entry .widths) (l .entry .at) (waits (l .entry .source)))
+        (PassLeads (arguments-of (l .frame)) (st .current (l .entry .store)) (terms (l .ts) (l .n))
+        (st .current (l .store)) (from (l .ts) (l .i) (l .n - l .i)) (l .made))
+        (way guide (l .picks) (l .widths) (l .at) (waits (l .source)))

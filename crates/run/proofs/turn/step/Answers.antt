@@ -18,12 +18,13 @@ use Rattle.sheet.specs.Sheets.{tree-of}
 use Rattle.run.specs.Frames.{arguments-of, argument-of}
 use Rattle.run.specs.Ways.{way, Fits, Took, Halt, Chosen}
 use Rattle.run.specs.Comparing.{Compared}
-use Rattle.run.specs.Goals.{Solving, stack, spot, terms, pending}
+use Rattle.run.specs.declared.turn.Turn.the-variants.{Moved, Spent}
+use Rattle.run.specs.Goals.{Solving, stack, spot, terms, pending, Sided, Entered, Turned}
 use Rattle.run.proofs.Settling.{some-alive}
 use Rattle.run.proofs.Frames.{known-in}
 use Rattle.run.proofs.Tables.{body-is}
-use Rattle.run.proofs.Turns.{top, framed, above, rest, stands, opened, node-okay, frame-okay, none-put, one-put, two-put, call-put, depth, two-room}
-use Rattle.run.proofs.Arms.{negate-led, compare-fits, compare-halt, compare-led, compare-dead, pick-fits, pick-halt, pick-led, both-led, left-led, right-led, join-halt, join-fits, call-fits, call-halt, call-led, call-spent, both-wants, one-wants}
+use Rattle.run.proofs.Turns.{top, framed, above, rest, stands, opened, node-okay, frame-okay, none-put, one-put, two-put, call-put, depth, two-room, entered}
+use Rattle.run.proofs.Arms.{negate-led, compare-fits, compare-halt, compare-led, compare-dead, pick-fits, pick-halt, pick-led, left-led, sides-led, join-halt, join-fits, call-fits, call-halt, call-led, call-spent}
 use Rattle.run.proofs.turn.step.Needs as need
 
 pub index-sheet-g : need.index-sheet-g
@@ -34,7 +35,8 @@ index-sheet-g g c =
     let s = c .args .store .now in
     let w = st .width s in
     let S = st .current s in
-    let z = way guide (c .args .picks .now) (c .args .widths .now) (c .args .at .now) (waits (c .args .source .now)) in
+    let z = way guide (c .args .picks .now) (c .args .widths .now) (c .args .at .now)
+        (waits (c .args .source .now)) in
     let sh = c .args .sheet .now in
     let wide = c .pre .fields in
     let gs = c .args .goals .now in
@@ -51,7 +53,8 @@ index-sheet-g g c =
     let b = top sh w wide gs fs n f u fit more .target in
     let e = above sh w wide gs fs n f u fit more in
     let below = rest sh w wide gs fs n f u fit more in
-    omega (arith, sh .long, sh .«lines_kept» (stands sh w wide gs fs n f u fit more .line) (stands sh w wide gs fs n f u fit more .within .0), stands sh w wide gs fs n f u fit more .within .2)
+    omega (arith, sh .long, sh .«lines_kept» (stands sh w wide gs fs n f u fit more .line)
+        (stands sh w wide gs fs n f u fit more .within .0), stands sh w wide gs fs n f u fit more .within .2)
 
 pub returns-in-Not : need.returns-in-Not
 returns-in-Not g c =
@@ -61,7 +64,8 @@ returns-in-Not g c =
     let s = c .args .store .now in
     let w = st .width s in
     let S = st .current s in
-    let z = way guide (c .args .picks .now) (c .args .widths .now) (c .args .at .now) (waits (c .args .source .now)) in
+    let z = way guide (c .args .picks .now) (c .args .widths .now) (c .args .at .now)
+        (waits (c .args .source .now)) in
     let sh = c .args .sheet .now in
     let wide = c .pre .fields in
     let gs = c .args .goals .now in
@@ -83,7 +87,10 @@ returns-in-Not g c =
     let ok = node-okay sh w wide gs fs n f u fit more node (c .in-Not .is) in
     record {
       same = (refl, refl, λ m h. h);
-      left = one-put sh w wide gs fs n f u fit more S S z z (c .pre .some) (whole tree node) b is (c .in-Not .f) (not b) (c .push .last .goals) (c .push .last .d) ok (omega arith) (omega arith) (c .push .ensures .goals) (c .push .ensures .depth) (negate-led rules e b below u S C x w z (tree (c .in-Not .f)))
+      left = one-put sh w wide gs fs n f u fit more S S z z (c .pre .some) (whole tree node) b is
+          (c .in-Not .f) (not b) (c .push .last .goals) (c .push .last .d) ok (omega arith) (omega arith)
+          (c .push .ensures .goals) (c .push .ensures .depth)
+          (negate-led rules e b below u S C x w z (tree (c .in-Not .f)));
     }
 
 pub compare-requires : need.compare-requires
@@ -94,7 +101,8 @@ compare-requires g c κs =
     let s = c .args .store .now in
     let w = st .width s in
     let S = st .current s in
-    let z = way guide (c .args .picks .now) (c .args .widths .now) (c .args .at .now) (waits (c .args .source .now)) in
+    let z = way guide (c .args .picks .now) (c .args .widths .now) (c .args .at .now)
+        (waits (c .args .source .now)) in
     let sh = c .args .sheet .now in
     let wide = c .pre .fields in
     let gs = c .args .goals .now in
@@ -115,8 +123,12 @@ compare-requires g c κs =
     let is = opened sh w wide gs fs n f u fit more node (c .in-Compare .is) in
     let ok = node-okay sh w wide gs fs n f u fit more node (c .in-Compare .is) in
     record {
-      frame = frame-okay sh w wide gs fs n f u fit more; left = ok .0; right = ok .1; some = c .pre .some;
-      room = compare-fits rules e b below u S C x w z (term-of (c .in-Compare .l)) (c .in-Compare .sign) (term-of (c .in-Compare .r)) (subst (λ q. Fits z (Solving rules q u S)) is (c .pre .room))
+      frame = frame-okay sh w wide gs fs n f u fit more;
+      left = ok .0;
+      right = ok .1;
+      some = c .pre .some;
+      room = compare-fits rules e b below u S C x w z (term-of (c .in-Compare .l)) (c .in-Compare .sign)
+          (term-of (c .in-Compare .r)) (subst (λ q. Fits z (Solving rules q u S)) is (c .pre .room));
     }
 
 pub returns-in-None : need.returns-in-None
@@ -127,7 +139,8 @@ returns-in-None g c =
     let s = c .args .store .now in
     let w = st .width s in
     let S = st .current s in
-    let z = way guide (c .args .picks .now) (c .args .widths .now) (c .args .at .now) (waits (c .args .source .now)) in
+    let z = way guide (c .args .picks .now) (c .args .widths .now) (c .args .at .now)
+        (waits (c .args .source .now)) in
     let sh = c .args .sheet .now in
     let wide = c .pre .fields in
     let gs = c .args .goals .now in
@@ -148,10 +161,13 @@ returns-in-None g c =
     let is = opened sh w wide gs fs n f u fit more node (c .in-Compare .is) in
     let ok = node-okay sh w wide gs fs n f u fit more node (c .in-Compare .is) in
     let P = st .current (c .compare .last .store) in
-    let y = way guide (c .compare .last .picks) (c .compare .last .widths) (c .compare .last .at) (waits (c .compare .last .source)) in
+    let y = way guide (c .compare .last .picks) (c .compare .last .widths) (c .compare .last .at)
+        (waits (c .compare .last .source)) in
     record {
       same = c .compare .ensures .same;
-      left = subst (λ q. Halt z (Solving rules q u S) y) (sym is) (compare-halt rules e b below u S C x w z (term-of (c .in-Compare .l)) (c .in-Compare .sign) (term-of (c .in-Compare .r)) P y (c .in-None .ensures tt .left))
+      left = subst (λ q. Halt z (Solving rules q u S) y) (sym is)
+          (compare-halt rules e b below u S C x w z (term-of (c .in-Compare .l)) (c .in-Compare .sign)
+          (term-of (c .in-Compare .r)) P y (c .in-None .ensures tt .left));
     }
 
 pub returns-then-live : need.returns-then-live
@@ -162,7 +178,8 @@ returns-then-live g c =
     let s = c .args .store .now in
     let w = st .width s in
     let S = st .current s in
-    let z = way guide (c .args .picks .now) (c .args .widths .now) (c .args .at .now) (waits (c .args .source .now)) in
+    let z = way guide (c .args .picks .now) (c .args .widths .now) (c .args .at .now)
+        (waits (c .args .source .now)) in
     let sh = c .args .sheet .now in
     let wide = c .pre .fields in
     let gs = c .args .goals .now in
@@ -183,11 +200,15 @@ returns-then-live g c =
     let is = opened sh w wide gs fs n f u fit more node (c .in-Compare .is) in
     let ok = node-okay sh w wide gs fs n f u fit more node (c .in-Compare .is) in
     let P = st .current (c .compare .last .store) in
-    let y = way guide (c .compare .last .picks) (c .compare .last .widths) (c .compare .last .at) (waits (c .compare .last .source)) in
-    let k = subst (λ q. Compared w e (term-of (c .in-Compare .l)) (c .in-Compare .sign) (term-of (c .in-Compare .r)) b S z (Some q) P y) (c .if-live .taken) (c .in-Some .ensures tt .left) in
+    let y = way guide (c .compare .last .picks) (c .compare .last .widths) (c .compare .last .at)
+        (waits (c .compare .last .source)) in
+    let k = subst (λ q. Compared w e (term-of (c .in-Compare .l)) (c .in-Compare .sign)
+        (term-of (c .in-Compare .r)) b S z (Some q) P y) (c .if-live .taken) (c .in-Some .ensures tt .left) in
     record {
       same = c .compare .ensures .same;
-      left = none-put sh w wide gs fs n f u fit more S P z y (k .alive) (whole tree node) b is (compare-led rules e b below u S C x w z (term-of (c .in-Compare .l)) (c .in-Compare .sign) (term-of (c .in-Compare .r)) P y k) (omega arith)
+      left = none-put sh w wide gs fs n f u fit more S P z y (k .alive) (whole tree node) b is
+          (compare-led rules e b below u S C x w z (term-of (c .in-Compare .l)) (c .in-Compare .sign)
+          (term-of (c .in-Compare .r)) P y k) (omega arith);
     }
 
 pub returns-else-live : need.returns-else-live
@@ -198,7 +219,8 @@ returns-else-live g c =
     let s = c .args .store .now in
     let w = st .width s in
     let S = st .current s in
-    let z = way guide (c .args .picks .now) (c .args .widths .now) (c .args .at .now) (waits (c .args .source .now)) in
+    let z = way guide (c .args .picks .now) (c .args .widths .now) (c .args .at .now)
+        (waits (c .args .source .now)) in
     let sh = c .args .sheet .now in
     let wide = c .pre .fields in
     let gs = c .args .goals .now in
@@ -219,11 +241,15 @@ returns-else-live g c =
     let is = opened sh w wide gs fs n f u fit more node (c .in-Compare .is) in
     let ok = node-okay sh w wide gs fs n f u fit more node (c .in-Compare .is) in
     let P = st .current (c .compare .last .store) in
-    let y = way guide (c .compare .last .picks) (c .compare .last .widths) (c .compare .last .at) (waits (c .compare .last .source)) in
-    let k = subst (λ q. Compared w e (term-of (c .in-Compare .l)) (c .in-Compare .sign) (term-of (c .in-Compare .r)) b S z (Some q) P y) (c .if-live .left) (c .in-Some .ensures tt .left) in
+    let y = way guide (c .compare .last .picks) (c .compare .last .widths) (c .compare .last .at)
+        (waits (c .compare .last .source)) in
+    let k = subst (λ q. Compared w e (term-of (c .in-Compare .l)) (c .in-Compare .sign)
+        (term-of (c .in-Compare .r)) b S z (Some q) P y) (c .if-live .left) (c .in-Some .ensures tt .left) in
     record {
       same = c .compare .ensures .same;
-      left = subst (λ q. Took z (λ v. Solves rules q (live u S) v dead) y) (sym is) (compare-dead rules e b below u S C x w z (term-of (c .in-Compare .l)) (c .in-Compare .sign) (term-of (c .in-Compare .r)) P y k)
+      left = subst (λ q. Took z (λ v. Solves rules q (live u S) v dead) y) (sym is)
+          (compare-dead rules e b below u S C x w z (term-of (c .in-Compare .l)) (c .in-Compare .sign)
+          (term-of (c .in-Compare .r)) P y k);
     }
 
 pub argument-requires : need.argument-requires
@@ -234,7 +260,8 @@ argument-requires g c κs =
     let s = c .args .store .now in
     let w = st .width s in
     let S = st .current s in
-    let z = way guide (c .args .picks .now) (c .args .widths .now) (c .args .at .now) (waits (c .args .source .now)) in
+    let z = way guide (c .args .picks .now) (c .args .widths .now) (c .args .at .now)
+        (waits (c .args .source .now)) in
     let sh = c .args .sheet .now in
     let wide = c .pre .fields in
     let gs = c .args .goals .now in
@@ -254,7 +281,8 @@ argument-requires g c κs =
     let node = Pick (c .in-Pick .x) (c .in-Pick .f) in
     let is = opened sh w wide gs fs n f u fit more node (c .in-Pick .is) in
     let ok = node-okay sh w wide gs fs n f u fit more node (c .in-Pick .is) in
-    record { few = frame-okay sh w wide gs fs n f u fit more .few; known = known-in w (framed sh w wide gs fs n f u fit more .count) (c .in-Pick .x) (ok .0) }
+    record { few = frame-okay sh w wide gs fs n f u fit more .few; known = known-in w
+        (framed sh w wide gs fs n f u fit more .count) (c .in-Pick .x) (ok .0) }
 
 pub settle-requires : need.settle-requires
 settle-requires g c κs =
@@ -264,7 +292,8 @@ settle-requires g c κs =
     let s = c .args .store .now in
     let w = st .width s in
     let S = st .current s in
-    let z = way guide (c .args .picks .now) (c .args .widths .now) (c .args .at .now) (waits (c .args .source .now)) in
+    let z = way guide (c .args .picks .now) (c .args .widths .now) (c .args .at .now)
+        (waits (c .args .source .now)) in
     let sh = c .args .sheet .now in
     let wide = c .pre .fields in
     let gs = c .args .goals .now in
@@ -288,7 +317,8 @@ settle-requires g c κs =
     record {
       okay = a .okay w (frame-okay sh w wide gs fs n f u fit more) (ok .0);
       some = c .pre .some;
-      room = pick-fits rules e b below u S C x w z (name-of (c .in-Pick .x)) (tree (c .in-Pick .f)) (c .argument .result) (a .is) (subst (λ q. Fits z (Solving rules q u S)) is (c .pre .room))
+      room = pick-fits rules e b below u S C x w z (name-of (c .in-Pick .x)) (tree (c .in-Pick .f))
+          (c .argument .result) (a .is) (subst (λ q. Fits z (Solving rules q u S)) is (c .pre .room));
     }
 
 pub returns-in-None-settle : need.returns-in-None-settle
@@ -299,7 +329,8 @@ returns-in-None-settle g c =
     let s = c .args .store .now in
     let w = st .width s in
     let S = st .current s in
-    let z = way guide (c .args .picks .now) (c .args .widths .now) (c .args .at .now) (waits (c .args .source .now)) in
+    let z = way guide (c .args .picks .now) (c .args .widths .now) (c .args .at .now)
+        (waits (c .args .source .now)) in
     let sh = c .args .sheet .now in
     let wide = c .pre .fields in
     let gs = c .args .goals .now in
@@ -320,11 +351,14 @@ returns-in-None-settle g c =
     let is = opened sh w wide gs fs n f u fit more node (c .in-Pick .is) in
     let ok = node-okay sh w wide gs fs n f u fit more node (c .in-Pick .is) in
     let P = st .current (c .settle .last .store) in
-    let y = way guide (c .settle .last .picks) (c .settle .last .widths) (c .settle .last .at) (waits (c .settle .last .source)) in
+    let y = way guide (c .settle .last .picks) (c .settle .last .widths) (c .settle .last .at)
+        (waits (c .settle .last .source)) in
     let a = c .argument .ensures in
     record {
       same = c .settle .ensures .same;
-      left = subst (λ q. Halt z (Solving rules q u S) y) (sym is) (pick-halt rules e b below u S C x w z (name-of (c .in-Pick .x)) (tree (c .in-Pick .f)) (c .argument .result) (a .is) P y (c .in-None-settle .ensures tt .left))
+      left = subst (λ q. Halt z (Solving rules q u S) y) (sym is)
+          (pick-halt rules e b below u S C x w z (name-of (c .in-Pick .x)) (tree (c .in-Pick .f))
+          (c .argument .result) (a .is) P y (c .in-None-settle .ensures tt .left));
     }
 
 pub returns-in-Some-settle : need.returns-in-Some-settle
@@ -335,7 +369,8 @@ returns-in-Some-settle g c =
     let s = c .args .store .now in
     let w = st .width s in
     let S = st .current s in
-    let z = way guide (c .args .picks .now) (c .args .widths .now) (c .args .at .now) (waits (c .args .source .now)) in
+    let z = way guide (c .args .picks .now) (c .args .widths .now) (c .args .at .now)
+        (waits (c .args .source .now)) in
     let sh = c .args .sheet .now in
     let wide = c .pre .fields in
     let gs = c .args .goals .now in
@@ -356,254 +391,17 @@ returns-in-Some-settle g c =
     let is = opened sh w wide gs fs n f u fit more node (c .in-Pick .is) in
     let ok = node-okay sh w wide gs fs n f u fit more node (c .in-Pick .is) in
     let P = st .current (c .settle .last .store) in
-    let y = way guide (c .settle .last .picks) (c .settle .last .widths) (c .settle .last .at) (waits (c .settle .last .source)) in
+    let y = way guide (c .settle .last .picks) (c .settle .last .widths) (c .settle .last .at)
+        (waits (c .settle .last .source)) in
     let a = c .argument .ensures in
     let k = c .in-Some-settle .ensures tt .left in
     record {
       same = c .settle .ensures .same;
-      left = one-put sh w wide gs fs n f u fit more S P z y (k .alive) (whole tree node) b is (c .in-Pick .f) b (c .push-in-Some-settle .last .goals) (c .push-in-Some-settle .last .d) (ok .1) (omega arith) (omega arith) (c .push-in-Some-settle .ensures .goals) (c .push-in-Some-settle .ensures .depth) (pick-led rules e b below u S C x w z (name-of (c .in-Pick .x)) (tree (c .in-Pick .f)) (c .argument .result) (a .is) P y _ k)
-    }
-
-pub push-requires-then-wants-g-2 : need.push-requires-then-wants-g-2
-push-requires-then-wants-g-2 g c κs =
-    let st = g .S·Store in
-    let waits = g .R·Source .waiting in
-    let guide = c .args .guide in
-    let s = c .args .store .now in
-    let w = st .width s in
-    let S = st .current s in
-    let z = way guide (c .args .picks .now) (c .args .widths .now) (c .args .at .now) (waits (c .args .source .now)) in
-    let sh = c .args .sheet .now in
-    let wide = c .pre .fields in
-    let gs = c .args .goals .now in
-    let fs = c .args .frames .now in
-    let n = c .args .d .now .goals in
-    let f = c .args .d .now .frames in
-    let u = c .args .d .now .fuel in
-    let rules = rules-of (tree-of sh) in
-    let tree = formula-at (sh .nodes) in
-    let C = counted w S (st .sound .left s) in
-    let x = some-alive w S (c .pre .some) in
-    let fit = c .pre .fit in
-    let more = c .pre .more in
-    let b = top sh w wide gs fs n f u fit more .target in
-    let e = above sh w wide gs fs n f u fit more in
-    let below = rest sh w wide gs fs n f u fit more in
-    let node = Join (c .in-Join .word) (c .in-Join .v) (c .in-Join .w) (c .in-Join .l) (c .in-Join .r) in
-    let is = opened sh w wide gs fs n f u fit more node (c .in-Join .is) in
-    let ok = node-okay sh w wide gs fs n f u fit more node (c .in-Join .is) in
-    let room = two-room sh w wide gs fs n f u fit more S S z z (c .pre .some) (whole tree node) b is (omega arith) in
-    let eg = ap length (c .push-then-wants-g .ensures .goals) ∙ length-set gs (n - 1) _ in
-    let ed = ap (λ q. q .goals) (c .push-then-wants-g .ensures .depth) in
-    omega arith
-
-pub returns-then-wants-g : need.returns-then-wants-g
-returns-then-wants-g g c =
-    let st = g .S·Store in
-    let waits = g .R·Source .waiting in
-    let guide = c .args .guide in
-    let s = c .args .store .now in
-    let w = st .width s in
-    let S = st .current s in
-    let z = way guide (c .args .picks .now) (c .args .widths .now) (c .args .at .now) (waits (c .args .source .now)) in
-    let sh = c .args .sheet .now in
-    let wide = c .pre .fields in
-    let gs = c .args .goals .now in
-    let fs = c .args .frames .now in
-    let n = c .args .d .now .goals in
-    let f = c .args .d .now .frames in
-    let u = c .args .d .now .fuel in
-    let rules = rules-of (tree-of sh) in
-    let tree = formula-at (sh .nodes) in
-    let C = counted w S (st .sound .left s) in
-    let x = some-alive w S (c .pre .some) in
-    let fit = c .pre .fit in
-    let more = c .pre .more in
-    let b = top sh w wide gs fs n f u fit more .target in
-    let e = above sh w wide gs fs n f u fit more in
-    let below = rest sh w wide gs fs n f u fit more in
-    let node = Join (c .in-Join .word) (c .in-Join .v) (c .in-Join .w) (c .in-Join .l) (c .in-Join .r) in
-    let is = opened sh w wide gs fs n f u fit more node (c .in-Join .is) in
-    let ok = node-okay sh w wide gs fs n f u fit more node (c .in-Join .is) in
-    let h = subst (λ q. b ≡ q) (c .wants .ensures) (both-wants (c .wants .result) b (c .if-wants-g .taken)) in
-    record {
-      same = (refl, refl, λ m h. h);
-      left = two-put sh w wide gs fs n f u fit more S S z z (c .pre .some) (whole tree node) b is (c .in-Join .l) (c .in-Join .r) b b (c .push-then-wants-g .last .goals) (c .push-then-wants-g-2 .last .goals) (c .push-then-wants-g .last .d) (c .push-then-wants-g-2 .last .d) (ok .1) (ok .2) (omega arith) (omega arith) (c .push-then-wants-g .ensures .goals) (c .push-then-wants-g .ensures .depth) (c .push-then-wants-g-2 .ensures .goals) (c .push-then-wants-g-2 .ensures .depth) (both-led rules e b below u S C x w z (c .in-Join .word) (c .in-Join .v) (c .in-Join .w) (tree (c .in-Join .l)) (tree (c .in-Join .r)) h)
-    }
-
-pub choose-requires : need.choose-requires
-choose-requires g c κs =
-    let st = g .S·Store in
-    let waits = g .R·Source .waiting in
-    let guide = c .args .guide in
-    let s = c .args .store .now in
-    let w = st .width s in
-    let S = st .current s in
-    let z = way guide (c .args .picks .now) (c .args .widths .now) (c .args .at .now) (waits (c .args .source .now)) in
-    let sh = c .args .sheet .now in
-    let wide = c .pre .fields in
-    let gs = c .args .goals .now in
-    let fs = c .args .frames .now in
-    let n = c .args .d .now .goals in
-    let f = c .args .d .now .frames in
-    let u = c .args .d .now .fuel in
-    let rules = rules-of (tree-of sh) in
-    let tree = formula-at (sh .nodes) in
-    let C = counted w S (st .sound .left s) in
-    let x = some-alive w S (c .pre .some) in
-    let fit = c .pre .fit in
-    let more = c .pre .more in
-    let b = top sh w wide gs fs n f u fit more .target in
-    let e = above sh w wide gs fs n f u fit more in
-    let below = rest sh w wide gs fs n f u fit more in
-    let node = Join (c .in-Join .word) (c .in-Join .v) (c .in-Join .w) (c .in-Join .l) (c .in-Join .r) in
-    let is = opened sh w wide gs fs n f u fit more node (c .in-Join .is) in
-    let ok = node-okay sh w wide gs fs n f u fit more node (c .in-Join .is) in
-    let h = subst (λ q. b ≢ q) (c .wants .ensures) (one-wants (c .wants .result) b (c .if-wants-g .left)) in
-    record {
-      usable = omega (arith, ok .0);
-      room = join-fits rules e b below u S C x w z (c .in-Join .word) (c .in-Join .v) (c .in-Join .w) (tree (c .in-Join .l)) (tree (c .in-Join .r)) h (subst (λ q. Fits z (Solving rules q u S)) is (c .pre .room))
-    }
-
-pub returns-in-None-choose : need.returns-in-None-choose
-returns-in-None-choose g c =
-    let st = g .S·Store in
-    let waits = g .R·Source .waiting in
-    let guide = c .args .guide in
-    let s = c .args .store .now in
-    let w = st .width s in
-    let S = st .current s in
-    let z = way guide (c .args .picks .now) (c .args .widths .now) (c .args .at .now) (waits (c .args .source .now)) in
-    let sh = c .args .sheet .now in
-    let wide = c .pre .fields in
-    let gs = c .args .goals .now in
-    let fs = c .args .frames .now in
-    let n = c .args .d .now .goals in
-    let f = c .args .d .now .frames in
-    let u = c .args .d .now .fuel in
-    let rules = rules-of (tree-of sh) in
-    let tree = formula-at (sh .nodes) in
-    let C = counted w S (st .sound .left s) in
-    let x = some-alive w S (c .pre .some) in
-    let fit = c .pre .fit in
-    let more = c .pre .more in
-    let b = top sh w wide gs fs n f u fit more .target in
-    let e = above sh w wide gs fs n f u fit more in
-    let below = rest sh w wide gs fs n f u fit more in
-    let node = Join (c .in-Join .word) (c .in-Join .v) (c .in-Join .w) (c .in-Join .l) (c .in-Join .r) in
-    let is = opened sh w wide gs fs n f u fit more node (c .in-Join .is) in
-    let ok = node-okay sh w wide gs fs n f u fit more node (c .in-Join .is) in
-    let y = way guide (c .choose .last .picks) (c .choose .last .widths) (c .choose .last .at) (waits (c .choose .last .source)) in
-    let h = subst (λ q. b ≢ q) (c .wants .ensures) (one-wants (c .wants .result) b (c .if-wants-g .left)) in
-    record {
-      same = (refl, refl, λ m h. h);
-      left = subst (λ q. Halt z (Solving rules q u S) y) (sym is) (join-halt rules e b below u S C x w z (c .in-Join .word) (c .in-Join .v) (c .in-Join .w) (tree (c .in-Join .l)) (tree (c .in-Join .r)) h y (c .in-None-choose .ensures tt))
-    }
-
-pub returns-then-p-eq0 : need.returns-then-p-eq0
-returns-then-p-eq0 g c =
-    let st = g .S·Store in
-    let waits = g .R·Source .waiting in
-    let guide = c .args .guide in
-    let s = c .args .store .now in
-    let w = st .width s in
-    let S = st .current s in
-    let z = way guide (c .args .picks .now) (c .args .widths .now) (c .args .at .now) (waits (c .args .source .now)) in
-    let sh = c .args .sheet .now in
-    let wide = c .pre .fields in
-    let gs = c .args .goals .now in
-    let fs = c .args .frames .now in
-    let n = c .args .d .now .goals in
-    let f = c .args .d .now .frames in
-    let u = c .args .d .now .fuel in
-    let rules = rules-of (tree-of sh) in
-    let tree = formula-at (sh .nodes) in
-    let C = counted w S (st .sound .left s) in
-    let x = some-alive w S (c .pre .some) in
-    let fit = c .pre .fit in
-    let more = c .pre .more in
-    let b = top sh w wide gs fs n f u fit more .target in
-    let e = above sh w wide gs fs n f u fit more in
-    let below = rest sh w wide gs fs n f u fit more in
-    let node = Join (c .in-Join .word) (c .in-Join .v) (c .in-Join .w) (c .in-Join .l) (c .in-Join .r) in
-    let is = opened sh w wide gs fs n f u fit more node (c .in-Join .is) in
-    let ok = node-okay sh w wide gs fs n f u fit more node (c .in-Join .is) in
-    let y = way guide (c .choose .last .picks) (c .choose .last .widths) (c .choose .last .at) (waits (c .choose .last .source)) in
-    let h = subst (λ q. b ≢ q) (c .wants .ensures) (one-wants (c .wants .result) b (c .if-wants-g .left)) in
-    let k = subst (λ q. Chosen (branch (c .in-Join .v) (c .in-Join .w)) z (Some q) y) (c .if-p-eq0 .taken) (c .in-Some-choose .ensures tt) in
-    record {
-      same = (refl, refl, λ m h. h);
-      left = one-put sh w wide gs fs n f u fit more S S z y (c .pre .some) (whole tree node) b is (c .in-Join .l) b (c .push-then-p-eq0 .last .goals) (c .push-then-p-eq0 .last .d) (ok .1) (omega arith) (omega arith) (c .push-then-p-eq0 .ensures .goals) (c .push-then-p-eq0 .ensures .depth) (left-led rules e b below u S C x w z (c .in-Join .word) (c .in-Join .v) (c .in-Join .w) (tree (c .in-Join .l)) (tree (c .in-Join .r)) h y k)
-    }
-
-pub push-requires-in-Some-choose-2 : need.push-requires-in-Some-choose-2
-push-requires-in-Some-choose-2 g c κs =
-    let st = g .S·Store in
-    let waits = g .R·Source .waiting in
-    let guide = c .args .guide in
-    let s = c .args .store .now in
-    let w = st .width s in
-    let S = st .current s in
-    let z = way guide (c .args .picks .now) (c .args .widths .now) (c .args .at .now) (waits (c .args .source .now)) in
-    let sh = c .args .sheet .now in
-    let wide = c .pre .fields in
-    let gs = c .args .goals .now in
-    let fs = c .args .frames .now in
-    let n = c .args .d .now .goals in
-    let f = c .args .d .now .frames in
-    let u = c .args .d .now .fuel in
-    let rules = rules-of (tree-of sh) in
-    let tree = formula-at (sh .nodes) in
-    let C = counted w S (st .sound .left s) in
-    let x = some-alive w S (c .pre .some) in
-    let fit = c .pre .fit in
-    let more = c .pre .more in
-    let b = top sh w wide gs fs n f u fit more .target in
-    let e = above sh w wide gs fs n f u fit more in
-    let below = rest sh w wide gs fs n f u fit more in
-    let node = Join (c .in-Join .word) (c .in-Join .v) (c .in-Join .w) (c .in-Join .l) (c .in-Join .r) in
-    let is = opened sh w wide gs fs n f u fit more node (c .in-Join .is) in
-    let ok = node-okay sh w wide gs fs n f u fit more node (c .in-Join .is) in
-    let room = two-room sh w wide gs fs n f u fit more S S z z (c .pre .some) (whole tree node) b is (omega arith) in
-    let eg = ap length (c .push-in-Some-choose .ensures .goals) ∙ length-set gs (n - 1) _ in
-    let ed = ap (λ q. q .goals) (c .push-in-Some-choose .ensures .depth) in
-    omega arith
-
-pub returns-else-p-eq0 : need.returns-else-p-eq0
-returns-else-p-eq0 g c =
-    let st = g .S·Store in
-    let waits = g .R·Source .waiting in
-    let guide = c .args .guide in
-    let s = c .args .store .now in
-    let w = st .width s in
-    let S = st .current s in
-    let z = way guide (c .args .picks .now) (c .args .widths .now) (c .args .at .now) (waits (c .args .source .now)) in
-    let sh = c .args .sheet .now in
-    let wide = c .pre .fields in
-    let gs = c .args .goals .now in
-    let fs = c .args .frames .now in
-    let n = c .args .d .now .goals in
-    let f = c .args .d .now .frames in
-    let u = c .args .d .now .fuel in
-    let rules = rules-of (tree-of sh) in
-    let tree = formula-at (sh .nodes) in
-    let C = counted w S (st .sound .left s) in
-    let x = some-alive w S (c .pre .some) in
-    let fit = c .pre .fit in
-    let more = c .pre .more in
-    let b = top sh w wide gs fs n f u fit more .target in
-    let e = above sh w wide gs fs n f u fit more in
-    let below = rest sh w wide gs fs n f u fit more in
-    let node = Join (c .in-Join .word) (c .in-Join .v) (c .in-Join .w) (c .in-Join .l) (c .in-Join .r) in
-    let is = opened sh w wide gs fs n f u fit more node (c .in-Join .is) in
-    let ok = node-okay sh w wide gs fs n f u fit more node (c .in-Join .is) in
-    let y = way guide (c .choose .last .picks) (c .choose .last .widths) (c .choose .last .at) (waits (c .choose .last .source)) in
-    let h = subst (λ q. b ≢ q) (c .wants .ensures) (one-wants (c .wants .result) b (c .if-wants-g .left)) in
-    let one : c .in-Some-choose .p ≡ 1 = omega (arith, c .in-Some-choose .ensures tt .0, c .if-p-eq0 .left) in
-    let k = subst (λ q. Chosen (branch (c .in-Join .v) (c .in-Join .w)) z (Some q) y) one (c .in-Some-choose .ensures tt) in
-    record {
-      same = (refl, refl, λ m h. h);
-      left = two-put sh w wide gs fs n f u fit more S S z y (c .pre .some) (whole tree node) b is (c .in-Join .l) (c .in-Join .r) (not b) b (c .push-in-Some-choose .last .goals) (c .push-in-Some-choose-2 .last .goals) (c .push-in-Some-choose .last .d) (c .push-in-Some-choose-2 .last .d) (ok .1) (ok .2) (omega arith) (omega arith) (c .push-in-Some-choose .ensures .goals) (c .push-in-Some-choose .ensures .depth) (c .push-in-Some-choose-2 .ensures .goals) (c .push-in-Some-choose-2 .ensures .depth) (right-led rules e b below u S C x w z (c .in-Join .word) (c .in-Join .v) (c .in-Join .w) (tree (c .in-Join .l)) (tree (c .in-Join .r)) h y k)
+      left = one-put sh w wide gs fs n f u fit more S P z y (k .alive) (whole tree node) b is (c .in-Pick .f)
+          b (c .push-in-Some-settle .last .goals) (c .push-in-Some-settle .last .d) (ok .1) (omega arith)
+          (omega arith) (c .push-in-Some-settle .ensures .goals) (c .push-in-Some-settle .ensures .depth)
+          (pick-led rules e b below u S C x w z (name-of (c .in-Pick .x)) (tree (c .in-Pick .f))
+          (c .argument .result) (a .is) P y _ k);
     }
 
 pub pass-requires : need.pass-requires
@@ -614,7 +412,8 @@ pass-requires g c κs =
     let s = c .args .store .now in
     let w = st .width s in
     let S = st .current s in
-    let z = way guide (c .args .picks .now) (c .args .widths .now) (c .args .at .now) (waits (c .args .source .now)) in
+    let z = way guide (c .args .picks .now) (c .args .widths .now) (c .args .at .now)
+        (waits (c .args .source .now)) in
     let sh = c .args .sheet .now in
     let wide = c .pre .fields in
     let gs = c .args .goals .now in
@@ -635,8 +434,11 @@ pass-requires g c κs =
     let is = opened sh w wide gs fs n f u fit more node (c .in-Call .is) in
     let ok = node-okay sh w wide gs fs n f u fit more node (c .in-Call .is) in
     record {
-      frame = frame-okay sh w wide gs fs n f u fit more; okay = ok .2; some = c .pre .some;
-      room = call-fits rules e b below S C x w z (c .in-Call .rule) (terms (c .in-Call .ts) (c .in-Call .n)) u (subst (λ q. Fits z (Solving rules q u S)) is (c .pre .room))
+      frame = frame-okay sh w wide gs fs n f u fit more;
+      okay = ok .2;
+      some = c .pre .some;
+      room = call-fits rules e b below S C x w z (c .in-Call .rule) (terms (c .in-Call .ts) (c .in-Call .n)) u
+          (subst (λ q. Fits z (Solving rules q u S)) is (c .pre .room));
     }
 
 pub returns-in-None-pass : need.returns-in-None-pass
@@ -647,7 +449,8 @@ returns-in-None-pass g c =
     let s = c .args .store .now in
     let w = st .width s in
     let S = st .current s in
-    let z = way guide (c .args .picks .now) (c .args .widths .now) (c .args .at .now) (waits (c .args .source .now)) in
+    let z = way guide (c .args .picks .now) (c .args .widths .now) (c .args .at .now)
+        (waits (c .args .source .now)) in
     let sh = c .args .sheet .now in
     let wide = c .pre .fields in
     let gs = c .args .goals .now in
@@ -668,45 +471,13 @@ returns-in-None-pass g c =
     let is = opened sh w wide gs fs n f u fit more node (c .in-Call .is) in
     let ok = node-okay sh w wide gs fs n f u fit more node (c .in-Call .is) in
     let P = st .current (c .pass .last .store) in
-    let y = way guide (c .pass .last .picks) (c .pass .last .widths) (c .pass .last .at) (waits (c .pass .last .source)) in
+    let y = way guide (c .pass .last .picks) (c .pass .last .widths) (c .pass .last .at)
+        (waits (c .pass .last .source)) in
     record {
       same = c .pass .ensures .same;
-      left = subst (λ q. Halt z (Solving rules q u S) y) (sym is) (call-halt rules e b below S C x w z (c .in-Call .rule) (terms (c .in-Call .ts) (c .in-Call .n)) u (c .in-Call .n) P y (c .in-None-pass .ensures tt .left))
-    }
-
-pub returns-then-d-eq0 : need.returns-then-d-eq0
-returns-then-d-eq0 g c =
-    let st = g .S·Store in
-    let waits = g .R·Source .waiting in
-    let guide = c .args .guide in
-    let s = c .args .store .now in
-    let w = st .width s in
-    let S = st .current s in
-    let z = way guide (c .args .picks .now) (c .args .widths .now) (c .args .at .now) (waits (c .args .source .now)) in
-    let sh = c .args .sheet .now in
-    let wide = c .pre .fields in
-    let gs = c .args .goals .now in
-    let fs = c .args .frames .now in
-    let n = c .args .d .now .goals in
-    let f = c .args .d .now .frames in
-    let u = c .args .d .now .fuel in
-    let rules = rules-of (tree-of sh) in
-    let tree = formula-at (sh .nodes) in
-    let C = counted w S (st .sound .left s) in
-    let x = some-alive w S (c .pre .some) in
-    let fit = c .pre .fit in
-    let more = c .pre .more in
-    let b = top sh w wide gs fs n f u fit more .target in
-    let e = above sh w wide gs fs n f u fit more in
-    let below = rest sh w wide gs fs n f u fit more in
-    let node = Call (c .in-Call .rule) (c .in-Call .n) (c .in-Call .ts) in
-    let is = opened sh w wide gs fs n f u fit more node (c .in-Call .is) in
-    let ok = node-okay sh w wide gs fs n f u fit more node (c .in-Call .is) in
-    let P = st .current (c .pass .last .store) in
-    let y = way guide (c .pass .last .picks) (c .pass .last .widths) (c .pass .last .at) (waits (c .pass .last .source)) in
-    record {
-      same = c .pass .ensures .same;
-      left = subst (λ q. Took z (λ v. Solves rules q (live u S) v spent) y) (sym is) (call-spent rules e b below S C x w z (c .in-Call .rule) (terms (c .in-Call .ts) (c .in-Call .n)) u (c .in-Call .n) P y (c .in-Some-pass .f) (c .if-d-eq0 .taken) (c .in-Some-pass .ensures tt .left))
+      left = subst (λ q. Halt z (Solving rules q u S) y) (sym is)
+          (call-halt rules e b below S C x w z (c .in-Call .rule) (terms (c .in-Call .ts) (c .in-Call .n)) u
+          (c .in-Call .n) P y (c .in-None-pass .ensures tt .left));
     }
 
 pub index-sheet-rule : need.index-sheet-rule
@@ -717,7 +488,8 @@ index-sheet-rule g c =
     let s = c .args .store .now in
     let w = st .width s in
     let S = st .current s in
-    let z = way guide (c .args .picks .now) (c .args .widths .now) (c .args .at .now) (waits (c .args .source .now)) in
+    let z = way guide (c .args .picks .now) (c .args .widths .now) (c .args .at .now)
+        (waits (c .args .source .now)) in
     let sh = c .args .sheet .now in
     let wide = c .pre .fields in
     let gs = c .args .goals .now in
@@ -739,15 +511,213 @@ index-sheet-rule g c =
     let ok = node-okay sh w wide gs fs n f u fit more node (c .in-Call .is) in
     omega (arith, sh .long, sh .«few_rules», ok .0)
 
-pub returns-else-d-eq0 : need.returns-else-d-eq0
-returns-else-d-eq0 g c =
+pub ask-requires : need.ask-requires
+ask-requires g c κs =
     let st = g .S·Store in
     let waits = g .R·Source .waiting in
     let guide = c .args .guide in
     let s = c .args .store .now in
     let w = st .width s in
     let S = st .current s in
-    let z = way guide (c .args .picks .now) (c .args .widths .now) (c .args .at .now) (waits (c .args .source .now)) in
+    let z = way guide (c .args .picks .now) (c .args .widths .now) (c .args .at .now)
+        (waits (c .args .source .now)) in
+    let sh = c .args .sheet .now in
+    let wide = c .pre .fields in
+    let gs = c .args .goals .now in
+    let fs = c .args .frames .now in
+    let n = c .args .d .now .goals in
+    let f = c .args .d .now .frames in
+    let u = c .args .d .now .fuel in
+    let rules = rules-of (tree-of sh) in
+    let tree = formula-at (sh .nodes) in
+    let C = counted w S (st .sound .left s) in
+    let x = some-alive w S (c .pre .some) in
+    let fit = c .pre .fit in
+    let more = c .pre .more in
+    let b = top sh w wide gs fs n f u fit more .target in
+    let e = above sh w wide gs fs n f u fit more in
+    let below = rest sh w wide gs fs n f u fit more in
+    let node = Join (c .in-Join .word) (c .in-Join .v) (c .in-Join .w) (c .in-Join .l) (c .in-Join .r) in
+    let is = opened sh w wide gs fs n f u fit more node (c .in-Join .is) in
+    let ok = node-okay sh w wide gs fs n f u fit more node (c .in-Join .is) in
+    record {
+      usable = omega (arith, ok .0);
+      room = λ h. join-fits rules e b below u S C x w z (c .in-Join .word) (c .in-Join .v) (c .in-Join .w)
+          (tree (c .in-Join .l)) (tree (c .in-Join .r)) h
+          (subst (λ q. Fits z (Solving rules q u S)) is (c .pre .room));
+    }
+
+pub returns-in-rest : need.returns-in-rest
+returns-in-rest g c =
+    let st = g .S·Store in
+    let waits = g .R·Source .waiting in
+    let guide = c .args .guide in
+    let s = c .args .store .now in
+    let w = st .width s in
+    let S = st .current s in
+    let z = way guide (c .args .picks .now) (c .args .widths .now) (c .args .at .now)
+        (waits (c .args .source .now)) in
+    let sh = c .args .sheet .now in
+    let wide = c .pre .fields in
+    let gs = c .args .goals .now in
+    let fs = c .args .frames .now in
+    let n = c .args .d .now .goals in
+    let f = c .args .d .now .frames in
+    let u = c .args .d .now .fuel in
+    let rules = rules-of (tree-of sh) in
+    let tree = formula-at (sh .nodes) in
+    let C = counted w S (st .sound .left s) in
+    let x = some-alive w S (c .pre .some) in
+    let fit = c .pre .fit in
+    let more = c .pre .more in
+    let b = top sh w wide gs fs n f u fit more .target in
+    let e = above sh w wide gs fs n f u fit more in
+    let below = rest sh w wide gs fs n f u fit more in
+    let node = Join (c .in-Join .word) (c .in-Join .v) (c .in-Join .w) (c .in-Join .l) (c .in-Join .r) in
+    let is = opened sh w wide gs fs n f u fit more node (c .in-Join .is) in
+    let ok = node-okay sh w wide gs fs n f u fit more node (c .in-Join .is) in
+    let y = way guide (c .ask .last .picks) (c .ask .last .widths) (c .ask .last .at)
+        (waits (c .ask .last .source)) in
+    let h = c .in-rest .ensures tt in
+    record {
+      same = (refl, refl, λ m h. h);
+      left = subst (λ q. Halt z (Solving rules q u S) y) (sym is)
+          (join-halt rules e b below u S C x w z (c .in-Join .word) (c .in-Join .v) (c .in-Join .w)
+          (tree (c .in-Join .l)) (tree (c .in-Join .r)) (h .0) y (h .1));
+    }
+
+pub returns-in-Left : need.returns-in-Left
+returns-in-Left g c =
+    let st = g .S·Store in
+    let waits = g .R·Source .waiting in
+    let guide = c .args .guide in
+    let s = c .args .store .now in
+    let w = st .width s in
+    let S = st .current s in
+    let z = way guide (c .args .picks .now) (c .args .widths .now) (c .args .at .now)
+        (waits (c .args .source .now)) in
+    let sh = c .args .sheet .now in
+    let wide = c .pre .fields in
+    let gs = c .args .goals .now in
+    let fs = c .args .frames .now in
+    let n = c .args .d .now .goals in
+    let f = c .args .d .now .frames in
+    let u = c .args .d .now .fuel in
+    let rules = rules-of (tree-of sh) in
+    let tree = formula-at (sh .nodes) in
+    let C = counted w S (st .sound .left s) in
+    let x = some-alive w S (c .pre .some) in
+    let fit = c .pre .fit in
+    let more = c .pre .more in
+    let b = top sh w wide gs fs n f u fit more .target in
+    let e = above sh w wide gs fs n f u fit more in
+    let below = rest sh w wide gs fs n f u fit more in
+    let node = Join (c .in-Join .word) (c .in-Join .v) (c .in-Join .w) (c .in-Join .l) (c .in-Join .r) in
+    let is = opened sh w wide gs fs n f u fit more node (c .in-Join .is) in
+    let ok = node-okay sh w wide gs fs n f u fit more node (c .in-Join .is) in
+    let y = way guide (c .ask .last .picks) (c .ask .last .widths) (c .ask .last .at)
+        (waits (c .ask .last .source)) in
+    let h = subst (λ q. Sided (c .in-Join .word) (c .in-Join .v) (c .in-Join .w) b z (Some q) y)
+        (c .in-Left .is) (c .in-Some-ask .ensures tt) in
+    record {
+      same = (refl, refl, λ m h. h);
+      left = one-put sh w wide gs fs n f u fit more S S z y (c .pre .some) (whole tree node) b is
+          (c .in-Join .l) b (c .push-in-Left .last .goals) (c .push-in-Left .last .d) (ok .1) (omega arith)
+          (omega arith) (c .push-in-Left .ensures .goals) (c .push-in-Left .ensures .depth)
+          (left-led rules e b below u S C x w z (c .in-Join .word) (c .in-Join .v) (c .in-Join .w)
+          (tree (c .in-Join .l)) (tree (c .in-Join .r)) (h .0) y (h .1));
+    }
+
+pub push-requires-in-Both-2 : need.push-requires-in-Both-2
+push-requires-in-Both-2 g c κs =
+    let st = g .S·Store in
+    let waits = g .R·Source .waiting in
+    let guide = c .args .guide in
+    let s = c .args .store .now in
+    let w = st .width s in
+    let S = st .current s in
+    let z = way guide (c .args .picks .now) (c .args .widths .now) (c .args .at .now)
+        (waits (c .args .source .now)) in
+    let sh = c .args .sheet .now in
+    let wide = c .pre .fields in
+    let gs = c .args .goals .now in
+    let fs = c .args .frames .now in
+    let n = c .args .d .now .goals in
+    let f = c .args .d .now .frames in
+    let u = c .args .d .now .fuel in
+    let rules = rules-of (tree-of sh) in
+    let tree = formula-at (sh .nodes) in
+    let C = counted w S (st .sound .left s) in
+    let x = some-alive w S (c .pre .some) in
+    let fit = c .pre .fit in
+    let more = c .pre .more in
+    let b = top sh w wide gs fs n f u fit more .target in
+    let e = above sh w wide gs fs n f u fit more in
+    let below = rest sh w wide gs fs n f u fit more in
+    let node = Join (c .in-Join .word) (c .in-Join .v) (c .in-Join .w) (c .in-Join .l) (c .in-Join .r) in
+    let is = opened sh w wide gs fs n f u fit more node (c .in-Join .is) in
+    let ok = node-okay sh w wide gs fs n f u fit more node (c .in-Join .is) in
+    let room = two-room sh w wide gs fs n f u fit more S S z z (c .pre .some) (whole tree node) b is
+        (omega arith) in
+    let eg = ap length (c .push-in-Both .ensures .goals) ∙ length-set gs (n - 1) _ in
+    let ed = ap (λ q. q .goals) (c .push-in-Both .ensures .depth) in
+    omega arith
+
+pub returns-in-Both : need.returns-in-Both
+returns-in-Both g c =
+    let st = g .S·Store in
+    let waits = g .R·Source .waiting in
+    let guide = c .args .guide in
+    let s = c .args .store .now in
+    let w = st .width s in
+    let S = st .current s in
+    let z = way guide (c .args .picks .now) (c .args .widths .now) (c .args .at .now)
+        (waits (c .args .source .now)) in
+    let sh = c .args .sheet .now in
+    let wide = c .pre .fields in
+    let gs = c .args .goals .now in
+    let fs = c .args .frames .now in
+    let n = c .args .d .now .goals in
+    let f = c .args .d .now .frames in
+    let u = c .args .d .now .fuel in
+    let rules = rules-of (tree-of sh) in
+    let tree = formula-at (sh .nodes) in
+    let C = counted w S (st .sound .left s) in
+    let x = some-alive w S (c .pre .some) in
+    let fit = c .pre .fit in
+    let more = c .pre .more in
+    let b = top sh w wide gs fs n f u fit more .target in
+    let e = above sh w wide gs fs n f u fit more in
+    let below = rest sh w wide gs fs n f u fit more in
+    let node = Join (c .in-Join .word) (c .in-Join .v) (c .in-Join .w) (c .in-Join .l) (c .in-Join .r) in
+    let is = opened sh w wide gs fs n f u fit more node (c .in-Join .is) in
+    let ok = node-okay sh w wide gs fs n f u fit more node (c .in-Join .is) in
+    let y = way guide (c .ask .last .picks) (c .ask .last .widths) (c .ask .last .at)
+        (waits (c .ask .last .source)) in
+    let t = c .in-Both .target in
+    let h = subst (λ q. Sided (c .in-Join .word) (c .in-Join .v) (c .in-Join .w) b z (Some q) y)
+        (c .in-Both .is) (c .in-Some-ask .ensures tt) in
+    record {
+      same = (refl, refl, λ m h. h);
+      left = two-put sh w wide gs fs n f u fit more S S z y (c .pre .some) (whole tree node) b is
+          (c .in-Join .l) (c .in-Join .r) t b (c .push-in-Both .last .goals) (c .push-in-Both-2 .last .goals)
+          (c .push-in-Both .last .d) (c .push-in-Both-2 .last .d) (ok .1) (ok .2) (omega arith) (omega arith)
+          (c .push-in-Both .ensures .goals) (c .push-in-Both .ensures .depth)
+          (c .push-in-Both-2 .ensures .goals) (c .push-in-Both-2 .ensures .depth)
+          (sides-led rules e b below u S C x w z (c .in-Join .word) (c .in-Join .v) (c .in-Join .w)
+          (tree (c .in-Join .l)) (tree (c .in-Join .r)) t y h);
+    }
+
+pub enter-requires : need.enter-requires
+enter-requires g c κs =
+    let st = g .S·Store in
+    let waits = g .R·Source .waiting in
+    let guide = c .args .guide in
+    let s = c .args .store .now in
+    let w = st .width s in
+    let S = st .current s in
+    let z = way guide (c .args .picks .now) (c .args .widths .now) (c .args .at .now)
+        (waits (c .args .source .now)) in
     let sh = c .args .sheet .now in
     let wide = c .pre .fields in
     let gs = c .args .goals .now in
@@ -768,12 +738,60 @@ returns-else-d-eq0 g c =
     let is = opened sh w wide gs fs n f u fit more node (c .in-Call .is) in
     let ok = node-okay sh w wide gs fs n f u fit more node (c .in-Call .is) in
     let P = st .current (c .pass .last .store) in
-    let y = way guide (c .pass .last .picks) (c .pass .last .widths) (c .pass .last .at) (waits (c .pass .last .source)) in
+    let y = way guide (c .pass .last .picks) (c .pass .last .widths) (c .pass .last .at)
+        (waits (c .pass .last .source)) in
+    record { goals = omega (arith, fit .0 .hold, more); frames = fit .0 .frames-hold; few = fit .0 .few }
+
+pub returns-in-Some-pass : need.returns-in-Some-pass
+returns-in-Some-pass g c =
+    let st = g .S·Store in
+    let waits = g .R·Source .waiting in
+    let guide = c .args .guide in
+    let s = c .args .store .now in
+    let w = st .width s in
+    let S = st .current s in
+    let z = way guide (c .args .picks .now) (c .args .widths .now) (c .args .at .now)
+        (waits (c .args .source .now)) in
+    let sh = c .args .sheet .now in
+    let wide = c .pre .fields in
+    let gs = c .args .goals .now in
+    let fs = c .args .frames .now in
+    let n = c .args .d .now .goals in
+    let f = c .args .d .now .frames in
+    let u = c .args .d .now .fuel in
+    let rules = rules-of (tree-of sh) in
+    let tree = formula-at (sh .nodes) in
+    let C = counted w S (st .sound .left s) in
+    let x = some-alive w S (c .pre .some) in
+    let fit = c .pre .fit in
+    let more = c .pre .more in
+    let b = top sh w wide gs fs n f u fit more .target in
+    let e = above sh w wide gs fs n f u fit more in
+    let below = rest sh w wide gs fs n f u fit more in
+    let node = Call (c .in-Call .rule) (c .in-Call .n) (c .in-Call .ts) in
+    let is = opened sh w wide gs fs n f u fit more node (c .in-Call .is) in
+    let ok = node-okay sh w wide gs fs n f u fit more node (c .in-Call .is) in
+    let P = st .current (c .pass .last .store) in
+    let y = way guide (c .pass .last .picks) (c .pass .last .widths) (c .pass .last .at)
+        (waits (c .pass .last .source)) in
     let k = c .in-Some-pass .ensures tt .left in
-    let fueled : 0 < u = omega (arith, c .if-d-eq0 .left) in
     let r = c .in-Call .rule in
-    let d = c .push-in-Some-pass .ensures .depth in
+    let a = c .in-Some-pass .f in
+    let F = tree (line-at (sh .lines) r .body) in
+    let q = spot (c .enter .last .goals) (c .enter .last .frames) (c .enter .last .d) in
+    let moved : Entered a (line-at (sh .lines) r .body) b (spot gs fs (depth (n - 1) f u)) Moved q → Turned sh
+        (pending sh gs fs n) u S z Moved q P y =
+    λ m. call-put sh w wide gs fs n f u fit more S P z y (k .alive) (whole tree node) b is r b a (q .goals)
+        (q .frames) (q .depth) (m .0) (ok .0) refl refl (k .okay) (k .count ∙ ok .1) (m .1) (m .2) (m .3)
+        (call-led rules e b below S C x w z (c .in-Call .rule) (terms (c .in-Call .ts) (c .in-Call .n)) u
+        (c .in-Call .n) P y a F (m .0) (body-is sh r (ok .0)) k) in
+    let out : Entered a (line-at (sh .lines) r .body) b (spot gs fs (depth (n - 1) f u)) Spent q → Turned sh
+        (pending sh gs fs n) u S z Spent q P y =
+    λ m. subst (λ q. Took z (λ v. Solves rules q (live u S) v spent) y) (sym is)
+        (call-spent rules e b below S C x w z (c .in-Call .rule) (terms (c .in-Call .ts) (c .in-Call .n)) u
+        (c .in-Call .n) P y a m k) in
     record {
       same = c .pass .ensures .same;
-      left = call-put sh w wide gs fs n f u fit more S P z y (k .alive) (whole tree node) b is r b (c .in-Some-pass .f) (c .push-in-Some-pass .last .goals) (set fs f (c .in-Some-pass .f)) (depth (c .push-in-Some-pass .last .d .goals) (f + 1) (c .push-in-Some-pass .last .d .fuel - 1)) fueled (ok .0) refl refl (k .okay) (k .count ∙ ok .1) (c .push-in-Some-pass .ensures .goals) refl (λ j. depth (d j .goals) (f + 1) (d j .fuel - 1)) (call-led rules e b below S C x w z (c .in-Call .rule) (terms (c .in-Call .ts) (c .in-Call .n)) u (c .in-Call .n) P y (c .in-Some-pass .f) (tree (line-at (sh .lines) r .body)) fueled (body-is sh r (ok .0)) k)
+      left = entered sh gs fs n u S P z y q a (line-at (sh .lines) r .body) b (spot gs fs (depth (n - 1) f u))
+          moved out (c .enter .result) (c .enter .ensures);
     }

@@ -20,15 +20,21 @@ run-holds g c =
     let s₀ = c .args .store .now in
     let w = st .width s₀ in
     let S = st .current s₀ in
-    let z = way guide (c .args .picks .now) (c .args .widths .now) (c .args .at .now) (waits (c .args .source .now)) in
+    let z = way guide (c .args .picks .now) (c .args .widths .now) (c .args .at .now)
+        (waits (c .args .source .now)) in
     let sh = c .args .sheet .now in
     let rules = rules-of (tree-of sh) in
     let F = mark-line (tree-of sh) in
     let n = c .args .fuel in
     let gs = c .args .goals .now in
-    let fs = c .args .frames .now in
-    (refl, refl, (λ m h. h), c .pre .some, first-fit sh gs fs n (c .pre .goals) (c .pre .frames) (omega arith),
-     begun rules F n S z _ (first-stack sh gs fs n (c .pre .goals) (c .pre .frames) (omega arith)))
+    let fs = c .args .frames .now in (
+      refl,
+      refl,
+      (λ m h. h),
+      c .pre .some,
+      first-fit sh gs fs n (c .pre .goals) (c .pre .frames) (omega arith),
+      begun rules F n S z _ (first-stack sh gs fs n (c .pre .goals) (c .pre .frames) (omega arith)),
+    )
 
 pub step-requires : need.step-requires
 step-requires g c κs =
@@ -38,7 +44,8 @@ step-requires g c κs =
     let s₀ = c .args .store .now in
     let w = st .width s₀ in
     let S = st .current s₀ in
-    let z = way guide (c .args .picks .now) (c .args .widths .now) (c .args .at .now) (waits (c .args .source .now)) in
+    let z = way guide (c .args .picks .now) (c .args .widths .now) (c .args .at .now)
+        (waits (c .args .source .now)) in
     let sh = c .args .sheet .now in
     let rules = rules-of (tree-of sh) in
     let F = mark-line (tree-of sh) in
@@ -55,7 +62,7 @@ step-requires g c κs =
       fit = inv .4;
       hold = inv .4 .0 .hold;
       more = c .run-test .taken;
-      room = work-fits rules F n S z gs k P y (inv .5) (c .pre .room)
+      room = work-fits rules F n S z gs k P y (inv .5) (c .pre .room);
     }
 
 pub run-less : need.run-less
@@ -69,7 +76,8 @@ run-again g c =
     let s₀ = c .args .store .now in
     let w = st .width s₀ in
     let S = st .current s₀ in
-    let z = way guide (c .args .picks .now) (c .args .widths .now) (c .args .at .now) (waits (c .args .source .now)) in
+    let z = way guide (c .args .picks .now) (c .args .widths .now) (c .args .at .now)
+        (waits (c .args .source .now)) in
     let sh = c .args .sheet .now in
     let rules = rules-of (tree-of sh) in
     let F = mark-line (tree-of sh) in
@@ -81,11 +89,14 @@ run-again g c =
     let k = c .run .d .fuel in
     let gs = stack sh (spot (c .run .goals) (c .run .frames) (c .run .d)) in
     let Q = st .current (c .step .last .store) in
-    let y′ = way guide (c .step .last .picks) (c .step .last .widths) (c .step .last .at) (waits (c .step .last .source)) in
+    let y′ = way guide (c .step .last .picks) (c .step .last .widths) (c .step .last .at)
+        (waits (c .step .last .source)) in
     let s′ = spot (c .step .last .goals) (c .step .last .frames) (c .step .last .d) in
     let same = c .step .ensures .same in
     let m = c .in-Moved .ensures tt .left in
-    (same .0 ∙ inv .0, same .1 ∙ inv .1, (λ m h. inv .2 m (same .2 m h)), subst (λ q. some q Q ≡ true) (sym (c .pre .fields)) (m .alive), m .fit, work-more rules F n S z gs k P y (inv .5) (stack sh s′) (c .step .last .d .fuel) Q y′ (m .took))
+    (same .0 ∙ inv .0, same .1 ∙ inv .1, (λ m h. inv .2 m (same .2 m h)), subst (λ q. some q Q ≡ true)
+        (sym (c .pre .fields)) (m .alive), m .fit, work-more rules F n S z gs k P y (inv .5) (stack sh s′)
+        (c .step .last .d .fuel) Q y′ (m .took))
 
 pub returns-in-Dead : need.returns-in-Dead
 returns-in-Dead g c =
@@ -95,7 +106,8 @@ returns-in-Dead g c =
     let s₀ = c .args .store .now in
     let w = st .width s₀ in
     let S = st .current s₀ in
-    let z = way guide (c .args .picks .now) (c .args .widths .now) (c .args .at .now) (waits (c .args .source .now)) in
+    let z = way guide (c .args .picks .now) (c .args .widths .now) (c .args .at .now)
+        (waits (c .args .source .now)) in
     let sh = c .args .sheet .now in
     let rules = rules-of (tree-of sh) in
     let F = mark-line (tree-of sh) in
@@ -107,10 +119,12 @@ returns-in-Dead g c =
     let k = c .run .d .fuel in
     let gs = stack sh (spot (c .run .goals) (c .run .frames) (c .run .d)) in
     let Q = st .current (c .step .last .store) in
-    let y′ = way guide (c .step .last .picks) (c .step .last .widths) (c .step .last .at) (waits (c .step .last .source)) in
+    let y′ = way guide (c .step .last .picks) (c .step .last .widths) (c .step .last .at)
+        (waits (c .step .last .source)) in
     let s′ = spot (c .step .last .goals) (c .step .last .frames) (c .step .last .d) in
     let same = c .step .ensures .same in
-    record { same = (same .0 ∙ inv .0, same .1 ∙ inv .1, λ m h. inv .2 m (same .2 m h)); left = work-ends rules F n S z gs k P y (inv .5) dead y′ (c .in-Dead .ensures tt .left) }
+    record { same = (same .0 ∙ inv .0, same .1 ∙ inv .1, λ m h. inv .2 m (same .2 m h)); left = work-ends
+        rules F n S z gs k P y (inv .5) dead y′ (c .in-Dead .ensures tt .left) }
 
 pub returns-in-Spent : need.returns-in-Spent
 returns-in-Spent g c =
@@ -120,7 +134,8 @@ returns-in-Spent g c =
     let s₀ = c .args .store .now in
     let w = st .width s₀ in
     let S = st .current s₀ in
-    let z = way guide (c .args .picks .now) (c .args .widths .now) (c .args .at .now) (waits (c .args .source .now)) in
+    let z = way guide (c .args .picks .now) (c .args .widths .now) (c .args .at .now)
+        (waits (c .args .source .now)) in
     let sh = c .args .sheet .now in
     let rules = rules-of (tree-of sh) in
     let F = mark-line (tree-of sh) in
@@ -132,10 +147,12 @@ returns-in-Spent g c =
     let k = c .run .d .fuel in
     let gs = stack sh (spot (c .run .goals) (c .run .frames) (c .run .d)) in
     let Q = st .current (c .step .last .store) in
-    let y′ = way guide (c .step .last .picks) (c .step .last .widths) (c .step .last .at) (waits (c .step .last .source)) in
+    let y′ = way guide (c .step .last .picks) (c .step .last .widths) (c .step .last .at)
+        (waits (c .step .last .source)) in
     let s′ = spot (c .step .last .goals) (c .step .last .frames) (c .step .last .d) in
     let same = c .step .ensures .same in
-    record { same = (same .0 ∙ inv .0, same .1 ∙ inv .1, λ m h. inv .2 m (same .2 m h)); left = work-ends rules F n S z gs k P y (inv .5) spent y′ (c .in-Spent .ensures tt .left) }
+    record { same = (same .0 ∙ inv .0, same .1 ∙ inv .1, λ m h. inv .2 m (same .2 m h)); left = work-ends
+        rules F n S z gs k P y (inv .5) spent y′ (c .in-Spent .ensures tt .left) }
 
 pub returns-in-Halted : need.returns-in-Halted
 returns-in-Halted g c =
@@ -145,7 +162,8 @@ returns-in-Halted g c =
     let s₀ = c .args .store .now in
     let w = st .width s₀ in
     let S = st .current s₀ in
-    let z = way guide (c .args .picks .now) (c .args .widths .now) (c .args .at .now) (waits (c .args .source .now)) in
+    let z = way guide (c .args .picks .now) (c .args .widths .now) (c .args .at .now)
+        (waits (c .args .source .now)) in
     let sh = c .args .sheet .now in
     let rules = rules-of (tree-of sh) in
     let F = mark-line (tree-of sh) in
@@ -157,10 +175,12 @@ returns-in-Halted g c =
     let k = c .run .d .fuel in
     let gs = stack sh (spot (c .run .goals) (c .run .frames) (c .run .d)) in
     let Q = st .current (c .step .last .store) in
-    let y′ = way guide (c .step .last .picks) (c .step .last .widths) (c .step .last .at) (waits (c .step .last .source)) in
+    let y′ = way guide (c .step .last .picks) (c .step .last .widths) (c .step .last .at)
+        (waits (c .step .last .source)) in
     let s′ = spot (c .step .last .goals) (c .step .last .frames) (c .step .last .d) in
     let same = c .step .ensures .same in
-    record { same = (same .0 ∙ inv .0, same .1 ∙ inv .1, λ m h. inv .2 m (same .2 m h)); left = work-halt rules F n S z gs k P y (inv .5) y′ (c .in-Halted .ensures tt .left) }
+    record { same = (same .0 ∙ inv .0, same .1 ∙ inv .1, λ m h. inv .2 m (same .2 m h)); left = work-halt
+        rules F n S z gs k P y (inv .5) y′ (c .in-Halted .ensures tt .left) }
 
 pub returns : need.returns
 returns g c =
@@ -170,7 +190,8 @@ returns g c =
     let s₀ = c .args .store .now in
     let w = st .width s₀ in
     let S = st .current s₀ in
-    let z = way guide (c .args .picks .now) (c .args .widths .now) (c .args .at .now) (waits (c .args .source .now)) in
+    let z = way guide (c .args .picks .now) (c .args .widths .now) (c .args .at .now)
+        (waits (c .args .source .now)) in
     let sh = c .args .sheet .now in
     let rules = rules-of (tree-of sh) in
     let F = mark-line (tree-of sh) in
@@ -182,4 +203,5 @@ returns g c =
     let k = c .run .d .fuel in
     let gs = stack sh (spot (c .run .goals) (c .run .frames) (c .run .d)) in
     let none : c .run .d .goals ≡ 0 = omega (arith, c .run-test .left) in
-    record { same = (inv .0, inv .1, inv .2); left = work-done rules F n S z gs k P y (inv .5) w (inv .3) (ap (pending sh (c .run .goals) (c .run .frames)) none) }
+    record { same = (inv .0, inv .1, inv .2); left = work-done rules F n S z gs k P y (inv .5) w (inv .3)
+        (ap (pending sh (c .run .goals) (c .run .frames)) none) }

@@ -20,7 +20,10 @@ Inv-run g l =
     × Inside (st .current (l .store)) (st .current (l .entry .store))
     × (some (st .width (l .entry .store)) (st .current (l .store)) ≡ true)
     × Fit (l .sheet) p
-    × Whole (rules-of (tree-of (l .sheet))) (mark-line (tree-of (l .sheet))) (l .fuel) (st .current (l .entry .store)) (way guide (l .entry .picks) (l .entry .widths) (l .entry .at) (waits (l .entry .source))) (stack (l .sheet) p) (l .d .fuel) (st .current (l .store)) (way guide (l .picks) (l .widths) (l .at) (waits (l .source)))
+    × Whole (rules-of (tree-of (l .sheet))) (mark-line (tree-of (l .sheet))) (l .fuel)
+        (st .current (l .entry .store)) (way guide (l .entry .picks) (l .entry .widths) (l .entry .at)
+        (waits (l .entry .source))) (stack (l .sheet) p) (l .d .fuel) (st .current (l .store))
+        (way guide (l .picks) (l .widths) (l .at) (waits (l .source)))
 
 abbrev pub μ-run : given.MeasureT-run
 μ-run g l = weight (l .sheet) (stack (l .sheet) (spot (l .goals) (l .frames) (l .d))) (l .d .fuel)

@@ -1,5 +1,5 @@
 use Prim.Native.Nat.{_<_, _≤_}
-use mathlib.Core.Path.{_≡_, refl, ap, _∙_}
+use mathlib.Core.Path.{refl, ap, _∙_}
 use mathlib.Core.Bool.{_&&_}
 use native.Mathlib.Omega.{arith}
 use Rattle.formula.specs.Comparing.{holds}
@@ -18,6 +18,10 @@ returns c =
     let l : k ≤ 1023 = omega (arith, c .if-number-gt-GREATEST .left) in
     record {
       same = (refl, refl);
-      left = ((h, l), marks-keep (s .width) (s .rows) f (c .args .sign) k (c .narrow .last .self) h (omega (arith, lent .0, s .few .1))
-        (λ v. c .narrow .ensures v ∙ ap (λ r. has r v && holds (c .args .sign) v k) (lent .1 no-row)))
+      left = (
+        (h, l),
+        marks-keep (s .width) (s .rows) f (c .args .sign) k (c .narrow .last .self) h
+            (omega (arith, lent .0, s .few .1))
+            (λ v. c .narrow .ensures v ∙ ap (λ r. has r v && holds (c .args .sign) v k) (lent .1 no-row)),
+      );
     }

@@ -1,4 +1,4 @@
-use mathlib.Core.Path.{_≡_, sym, ap, _∙_}
+use mathlib.Core.Path.{sym}
 use native.Mathlib.Omega.{arith}
 use borrow.Author.Count.{below-more}
 use Rattle.store.proofs.Opens.{in-marks, long-not-in, number-not-in}
@@ -15,7 +15,8 @@ loop-i-again c = below-more _ _ (c .loop-i .inv) (sym (c .if-not-holds .ensures 
 pub returns-then-not-holds : need.returns-then-not-holds
 returns-then-not-holds c =
     let s = c .args .self .now in
-    sym (number-not-in (s .width) (s .rows) (c .args .mark .now) (c .loop-i .i) (c .loop-i-test .taken) (sym (c .if-not-holds .ensures tt)))
+    sym (number-not-in (s .width) (s .rows) (c .args .mark .now) (c .loop-i .i) (c .loop-i-test .taken)
+    (sym (c .if-not-holds .ensures tt)))
 
 pub returns : need.returns
 returns c =

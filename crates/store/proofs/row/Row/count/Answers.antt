@@ -1,6 +1,5 @@
-use mathlib.Core.Path.{_≡_, sym, _∙_}
+use mathlib.Core.Path.{sym}
 use native.Mathlib.Omega.{arith}
-use borrow.Author.Needs.{needs}
 use Rattle.store.specs.Rows.{has}
 use Rattle.marks.proofs.Below.{length-zero, length-yes, length-no, length-le}
 use Rattle.store.proofs.Rows.{row-yes, row-no}
@@ -17,6 +16,18 @@ pub loop-v-again : need.loop-v-again
 loop-v-again c =
     let r = c .args .self .now in
     elim (c .if-self-v .came) [
-      then-self-v w ↦ omega (arith, w .found-is, c .loop-v .inv, length-yes (has r) (c .loop-v .v) (row-yes r (c .loop-v .v) (c .loop-v-test .taken) (w .if-self-v .taken)))
-    | else-self-v w ↦ omega (arith, w .found-is, c .loop-v .inv, length-no (has r) (c .loop-v .v) (row-no r (c .loop-v .v) (w .if-self-v .left)))
+      | then-self-v w ↦ omega (
+        arith,
+        w .found-is,
+        c .loop-v .inv,
+        length-yes (has r) (c .loop-v .v)
+            (row-yes r (c .loop-v .v) (c .loop-v-test .taken) (w .if-self-v .taken)),
+      )
+      | else-self-v w ↦ omega (
+        arith,
+        w .found-is,
+        c .loop-v .inv,
+        length-no (has r) (c .loop-v .v)
+            (row-no r (c .loop-v .v) (w .if-self-v .left)),
+      )
     ]

@@ -6,4 +6,5 @@ use Rattle.store.proofs.Rows.{row-no, row-past}
 use Rattle.store.proofs.row.Row.none.Needs as need
 
 pub returns : need.returns
-returns c v = ⊎-elim (λ h. row-no _ v (getD-replicate 1024 v false false h)) (λ h. row-past _ v h) (cases-lt v 1024)
+returns c v = ⊎-elim (λ h. row-no _ v (getD-replicate 1024 v false false h)) (λ h. row-past _ v h)
+    (cases-lt v 1024)

@@ -19,8 +19,27 @@ pub loop-v-again : need.loop-v-again
 loop-v-again c =
     let r = c .args .self .now in
     elim (c .if-self-v .came) [
-      then-self-v·else-passed-k w ↦ (omega (arith, w .passed-is, c .loop-v .inv .0, length-yes (has r) (c .loop-v .v) (row-yes r (c .loop-v .v) (c .loop-v-test .taken) (w .if-self-v .taken))), omega (arith, w .passed-is, c .loop-v .inv .1, w .if-passed-k .left))
-    | else-self-v w ↦ (omega (arith, w .passed-is, c .loop-v .inv .0, length-no (has r) (c .loop-v .v) (row-no r (c .loop-v .v) (w .if-self-v .left))), omega (arith, w .passed-is, c .loop-v .inv .1))
+      | then-self-v·else-passed-k w ↦ (
+        omega (
+          arith,
+          w .passed-is,
+          c .loop-v .inv .0,
+          length-yes (has r) (c .loop-v .v)
+              (row-yes r (c .loop-v .v) (c .loop-v-test .taken) (w .if-self-v .taken)),
+        ),
+        omega
+            (arith, w .passed-is, c .loop-v .inv .1, w .if-passed-k .left),
+      )
+      | else-self-v w ↦ (
+        omega (
+          arith,
+          w .passed-is,
+          c .loop-v .inv .0,
+          length-no (has r) (c .loop-v .v)
+              (row-no r (c .loop-v .v) (w .if-self-v .left)),
+        ),
+        omega (arith, w .passed-is, c .loop-v .inv .1),
+      )
     ]
 
 pub returns-then-passed-k : need.returns-then-passed-k

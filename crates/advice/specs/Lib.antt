@@ -1,0 +1,4 @@
+pub mod Advice
+pub mod Laws
+pub mod Message
+pub mod Places

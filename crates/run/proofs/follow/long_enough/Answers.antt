@@ -1,1 +1,0 @@
-use Rattle.run.proofs.follow.long_enough.Needs as need

@@ -1,0 +1,3 @@
+pub mod Withholding
+pub mod Restarting
+pub mod Sounds

@@ -1,0 +1,6 @@
+// A field and a number that no mark may hold together.
+#[derive(Clone, Copy)]
+pub struct Pair {
+    pub field: usize,
+    pub number: u16,
+}
