@@ -53,13 +53,14 @@ fn wants(word: Join) -> bool
 }
 
 // Puts a goal on the stack.
-fn push(goals: &mut [Goal], d: &mut Depth, g: Goal)
+fn push(goals: &mut [Goal], d: &mut Depth, formula: u8, target: bool, frame: u16)
     requires { ⌜ now d .goals < length (now goals) ⌝ }
-    ensures goals { λ _. ⌜ now (goals .exit) ≡ set (now (goals .entry)) (now (d .entry) .goals) g ⌝ }
+    ensures goals { λ _. ⌜ now (goals .exit) ≡ set (now (goals .entry)) (now (d .entry) .goals)
+        (record { formula = formula; target = target; frame = frame }) ⌝ }
     ensures depth { λ _. ⌜ now (d .exit) ≡ record
         { goals = now (d .entry) .goals + 1; frames = now (d .entry) .frames; fuel = now (d .entry) .fuel } ⌝ }
 {
-    goals[d.goals] = g;
+    goals[d.goals] = Goal { formula, target, frame };
     d.goals += 1;
 }
 
@@ -124,15 +125,7 @@ fn enter(
     }
     let frame = d.frames;
     frames[frame as usize] = f;
-    push(
-        goals,
-        d,
-        Goal {
-            formula,
-            target,
-            frame,
-        },
-    );
+    push(goals, d, formula, target, frame);
     d.frames = frame + 1;
     d.fuel -= 1;
     Turn::Moved
@@ -173,15 +166,7 @@ pub(crate) fn step<S: Store, R: Source>(
     let node = sheet.nodes[g.formula as usize];
     match node {
         Node::Not(f) => {
-            push(
-                goals,
-                d,
-                Goal {
-                    formula: f,
-                    target: !g.target,
-                    frame: g.frame,
-                },
-            );
+            push(goals, d, f, !g.target, g.frame);
             Turn::Moved
         }
         Node::Compare(l, sign, r) => match compare(
@@ -216,15 +201,7 @@ pub(crate) fn step<S: Store, R: Source>(
         ) {
             None => Turn::Halted,
             Some(_) => {
-                push(
-                    goals,
-                    d,
-                    Goal {
-                        formula: f,
-                        target: g.target,
-                        frame: g.frame,
-                    },
-                );
+                push(goals, d, f, g.target, g.frame);
                 Turn::Moved
             }
         },
@@ -233,34 +210,10 @@ pub(crate) fn step<S: Store, R: Source>(
                 return Turn::Halted;
             };
             match asked {
-                Sides::Left => push(
-                    goals,
-                    d,
-                    Goal {
-                        formula: l,
-                        target: g.target,
-                        frame: g.frame,
-                    },
-                ),
+                Sides::Left => push(goals, d, l, g.target, g.frame),
                 Sides::Both(target) => {
-                    push(
-                        goals,
-                        d,
-                        Goal {
-                            formula: r,
-                            target: g.target,
-                            frame: g.frame,
-                        },
-                    );
-                    push(
-                        goals,
-                        d,
-                        Goal {
-                            formula: l,
-                            target,
-                            frame: g.frame,
-                        },
-                    );
+                    push(goals, d, r, g.target, g.frame);
+                    push(goals, d, l, target, g.frame);
                 }
             }
             Turn::Moved
