@@ -18,6 +18,10 @@ const ENOUGH: usize = 32769;
 const FUEL: u8 = 255;
 const ENTRIES: usize = 4104;
 const FRAMES: usize = 256;
+const FIELDS: usize = 8;
+
+// Room for every line of a listing.
+const LINE: usize = 128;
 
 fn main(rt: LibcRuntime) -> io::Result<()> {
     let mut text = vec![in rt.alloc(); 0u8; ENOUGH]?;
@@ -41,13 +45,13 @@ fn list<W: Write>(heap: Global, sheet: &Sheet, out: &mut W) -> io::Result<()> {
     let mut widths = vec![in heap; 0u16; ENTRIES]?;
     let mut goals = vec![in heap; Goal::NONE; ENTRIES]?;
     let mut frames = vec![in heap; Frame::NONE; FRAMES]?;
-    let mut mark = [0u16; 8];
-    let mut line = [0u8; 128];
+    let mut mark = vec![in heap; 0u16; FIELDS]?;
+    let mut line = vec![in heap; 0u8; LINE]?;
     let mut walk = walk::start(FUEL);
     for _ in 0..u64::MAX {
         let answer = walk.next(sheet, &mut store, &mut picks, &mut widths, &mut goals, &mut frames, &mut mark);
         match answer {
-            Ok(Answer::Mark) => put(lines::mark_line(&mark[0..sheet.field_count], &mut line), &line, out)?,
+            Ok(Answer::Mark) => put_mark(sheet.field_count, &mark, &mut line, out)?,
             Ok(Answer::Finished) => break,
             Ok(Answer::DeadEnd | Answer::Spent) => {}
             Err(_) => return Err(io::Error::other("the walk is refused")),
@@ -55,4 +59,12 @@ fn list<W: Write>(heap: Global, sheet: &Sheet, out: &mut W) -> io::Result<()> {
     }
     let tallies = walk.tally();
     put(lines::closing_line(tallies.issued, tallies.dead, tallies.spent, &mut line), &line, out)
+}
+
+// Writes the line of the mark at the front of the mark list.
+fn put_mark<W: Write>(fields: usize, mark: &[u16], line: &mut [u8], out: &mut W) -> io::Result<()> {
+    if fields > mark.len() {
+        return Err(io::Error::other("the mark list is too short"));
+    }
+    put(lines::mark_line(&mark[0..fields], line), line, out)
 }
