@@ -24,7 +24,7 @@ struct Asked {
 }
 
 fn main(rt: LibcRuntime) -> io::Result<()> {
-    let Some(asked) = asked(&rt)? else {
+    let Some(asked) = arguments(&rt)? else {
         eprintln!(rt, "usage: check FUEL NUMBER ..  < SHEET")?;
         return Err(io::Error::other("no fuel, or a word that is no number"));
     };
@@ -42,7 +42,7 @@ fn main(rt: LibcRuntime) -> io::Result<()> {
 }
 
 // The arguments: a fuel, and then the mark's numbers.
-fn asked(rt: &LibcRuntime) -> io::Result<Option<Asked>> {
+fn arguments(rt: &LibcRuntime) -> io::Result<Option<Asked>> {
     let mut fuel = None;
     let mut mark = [0u16; NUMBERS];
     let mut count: usize = 0;

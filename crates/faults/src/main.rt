@@ -13,15 +13,26 @@ fn main(rt: LibcRuntime) -> io::Result<()> {
     let mut input = vec![in rt.alloc(); 0u8; ROOM]?;
     let size = streams::fill(&mut rt.stdin(), &mut input)?;
     let mut out = BufWriter::new(rt.stdout());
-    let mut line = [0u8; 128];
+    tell_all(&input[0..size], &mut out)?;
+    out.flush()
+}
+
+// A line for each sheet.
+fn tell_all<W: Write>(sheets: &[u8], out: &mut W) -> io::Result<()> {
     let mut start = 0;
-    for end in 0..size {
-        if input[end] == b'@' && start <= end {
-            put(tell(&input[start..end], &mut line), &line, &mut out)?;
+    for end in 0..sheets.len() {
+        if sheets[end] == b'@' && start <= end {
+            put_told(&sheets[start..end], out)?;
             start = end + 2;
         }
     }
-    out.flush()
+    Ok(())
+}
+
+// Writes the line of one sheet.
+fn put_told<W: Write>(text: &[u8], out: &mut W) -> io::Result<()> {
+    let mut line = [0u8; 128];
+    put(tell(text, &mut line), &line, out)
 }
 
 // Makes the line of one sheet's contents, or of its fault.
