@@ -14,32 +14,47 @@ use store::open::OpenStore;
 use store::open_rows::OpenRows;
 use walk::answer::Answer;
 use walk::start;
+use walk::state::Walk;
 
-// The answers of a whole walk with small fuel, each by a letter and its mark's numbers.
+// The answers of a whole walk with small fuel: two numbers each, a mark's or a sign for a run without one.
 fn walked<S: Store>(sheet: &Sheet, store: &mut S, fuel: u8, told: &mut [u16]) -> Result<usize, Fail> {
     let mut picks = [7u16; 64];
     let mut widths = [7u16; 64];
     let mut goals = [Goal::NONE; 64];
     let mut frames = [Frame::NONE; 4];
     let mut mark = [0u16; 8];
-    let mut walk = start(fuel);
+    walk_on(sheet, store, start(fuel), &mut picks, &mut widths, &mut goals, &mut frames, &mut mark, told)
+}
+
+fn walk_on<S: Store>(
+    sheet: &Sheet,
+    store: &mut S,
+    begun: Walk,
+    picks: &mut [u16],
+    widths: &mut [u16],
+    goals: &mut [Goal],
+    frames: &mut [Frame],
+    mark: &mut [u16],
+    told: &mut [u16],
+) -> Result<usize, Fail> {
+    let mut walk = begun;
     let mut used = 0;
     for _ in 0..100 {
-        match walk.next(sheet, store, &mut picks, &mut widths, &mut goals, &mut frames, &mut mark) {
+        match walk.next(sheet, store, picks, widths, goals, frames, mark) {
             Ok(Answer::Finished) => return Ok(used),
-            Ok(Answer::Mark) => used = noted(told, used, mark[0], mark[1]),
-            Ok(Answer::DeadEnd) => used = noted(told, used, 2000, 0),
-            Ok(Answer::Spent) => used = noted(told, used, 3000, 0),
+            Ok(Answer::Mark) => used = noted(told, used, mark),
+            Ok(Answer::DeadEnd) => used = noted(told, used, &[2000, 0]),
+            Ok(Answer::Spent) => used = noted(told, used, &[3000, 0]),
             Err(_) => return Err(Fail::new("a refusal")),
         }
     }
     Err(Fail::new("no end"))
 }
 
-fn noted(told: &mut [u16], used: usize, first: u16, second: u16) -> usize {
-    if used < told.len() && told.len() - used >= 2 {
-        told[used] = first;
-        told[used + 1] = second;
+fn noted(told: &mut [u16], used: usize, pair: &[u16]) -> usize {
+    if used < told.len() && told.len() - used >= 2 && pair.len() >= 2 {
+        told[used] = pair[0];
+        told[used + 1] = pair[1];
         return used + 2;
     }
     used
