@@ -1,5 +1,7 @@
 // What is printed for a person below a fault: its line and column, that line of the text, a mark under the
 // place, and advice. Each line is made in a buffer of the caller's.
+#![tactic(auto)]
+
 ghost use Rattle.lines.specs.Lines.{Made};
 ghost use Rattle.advice.specs.Laws.{OnePlace, StandsUnder};
 ghost use Rattle.advice.specs.Message.{advice_text, marker_text, position_text, shown_text};

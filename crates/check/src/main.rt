@@ -1,4 +1,6 @@
 // Checks one mark against a sheet from standard input: `check FUEL NUMBER ..` prints the plain reading's answer.
+#![tactic(auto)]
+
 use reading::{Reading, Verdict};
 use refusal::Refusal;
 use sheet::table::Sheet;

@@ -1,5 +1,7 @@
 // Callers of the law: two marks that one walk issues differ, and a walk conducted over any store by calls that are
 // given as data.
+#![tactic(auto)]
+
 ghost use Rattle.std.specs.Prelude.{◌≡◌, T, take, Ok, ◌≢◌};
 ghost use Rattle.walk.specs.declared.answer.Answer.TheVariants.{Mark};
 

@@ -1,4 +1,6 @@
 // Reads many sheets from standard input, each ended by a line `@`, and prints what each has, or its fault.
+#![tactic(auto)]
+
 use refusal::Refusal;
 use sheet::table::Sheet;
 use std::io;

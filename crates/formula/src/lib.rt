@@ -1,4 +1,6 @@
 // Comparison signs and joins, shared by tokens, sheets, stores and runs.
+#![tactic(auto)]
+
 ghost use Rattle.std.specs.Prelude.{◌≡◌};
 ghost use Rattle.formula.specs.Comparing.{holds, opposite, mirrored};
 

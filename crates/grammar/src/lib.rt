@@ -1,4 +1,6 @@
 // The grammar of a sheet.
+#![tactic(auto)]
+
 mod fill;
 mod formula;
 mod line;

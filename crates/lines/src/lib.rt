@@ -1,4 +1,6 @@
 // The bytes of each line that a program prints, made in a buffer of the caller's.
+#![tactic(auto)]
+
 ghost use Rattle.std.specs.Prelude.{◌≡◌, take, IfOk};
 ghost use Rattle.lines.specs.Lines.{Made, allowed_text, closing_text, contents_text, fault_text, mark_text};
 ghost use Rattle.lines.specs.Lines.{not_allowed_text, refused_text, signs_text, spent_text};

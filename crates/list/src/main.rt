@@ -1,4 +1,6 @@
 // Lists the marks of a sheet from standard input, in the order of the walk over every mark.
+#![tactic(auto)]
+
 use run::goal::{Frame, Goal};
 use sheet::table::Sheet;
 use std::alloc::Global;

@@ -1,5 +1,7 @@
 // What a sheet means: plain reading, matching, runs and walks, as relations over trees, and their laws.
 // Each function stands for a theorem, which its contract states.
+#![tactic(auto)]
+
 ghost use Rattle.meaning.specs.ReadingLaws.{FormulasRead, CallsSpend, Checkings};
 ghost use Rattle.meaning.specs.MatchingLaws.{MatchesPart, MatchesWithin, MatchesSound, MatchesComplete, MatchesDiffer};
 ghost use Rattle.meaning.specs.Comparisons.{ComparisonsKeep};

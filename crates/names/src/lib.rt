@@ -1,4 +1,6 @@
 // The names of a sheet: its first fault, or the sheet that it comes to.
+#![tactic(auto)]
+
 mod declared;
 mod entries;
 mod layout;

@@ -1,4 +1,6 @@
 // Proofreads a sheet from standard input: prints what it has, or where its text goes wrong and what would be right.
+#![tactic(auto)]
+
 use refusal::Fault;
 use sheet::table::Sheet;
 use std::io;

@@ -1,4 +1,6 @@
 // The plain reading of a mark against a sheet.
+#![tactic(auto)]
+
 mod fields;
 mod formulas;
 mod terms;

@@ -1,4 +1,6 @@
 // The one table of numbers that a call may return in place of its work.
+#![tactic(auto)]
+
 ghost use Rattle.std.specs.Prelude.{◌≡◌};
 ghost use Rattle.refusal.specs.Table.{number, layer};
 

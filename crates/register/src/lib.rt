@@ -1,4 +1,6 @@
 // The register store: its marks are the rows of a register that is held for reading.
+#![tactic(auto)]
+
 ghost use Rattle.std.specs.Prelude.{◌≡◌, ◌+◌, ◌*◌, ◌/◌, ◌<◌, length};
 ghost use Rattle.store.specs.Rules.{TellsEmpty};
 ghost use Rattle.store.specs.TakenRows.{HasTaken};

@@ -1,4 +1,6 @@
 // Runs of a sheet over any store: along recorded picks, or by the numbers of a source.
+#![tactic(auto)]
+
 mod admit;
 mod along;
 pub mod answer;

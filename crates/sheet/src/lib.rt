@@ -1,4 +1,6 @@
 // The sheet: fields, rules and formulas in tables of fixed size, with every rule of a sheet kept by its type.
+#![tactic(auto)]
+
 pub mod node;
 pub mod table;
 

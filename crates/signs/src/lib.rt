@@ -1,4 +1,6 @@
 // Cuts a sheet's text into words, numbers and signs, or says where it cannot be cut.
+#![tactic(auto)]
+
 mod byte;
 mod counts;
 mod cut;

@@ -1,4 +1,6 @@
 // Sources of numbers for draws.
+#![tactic(auto)]
+
 ghost use Rattle.std.specs.Prelude.{ℕ, List};
 ghost use Rattle.source.specs.Waiting.{Taken};
 

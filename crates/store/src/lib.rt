@@ -1,5 +1,7 @@
 // Stores of marks: the trait that every store keeps, and the open store.
 // A mark is a list of numbers from 0 to 1,023, one for each field.
+#![tactic(auto)]
+
 ghost use Rattle.std.specs.Prelude.{◌≡◌, ℕ};
 ghost use Rattle.marks.specs.Sets.{Marks};
 ghost use Rattle.store.specs.Rules.{Sound, Stays, Keeps, TellsEmpty, Counts, Answers};

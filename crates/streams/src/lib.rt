@@ -1,4 +1,6 @@
 // What the programs read and write: an input into a buffer of the caller's, and a line out of one.
+#![tactic(auto)]
+
 ghost use Rattle.std.specs.Prelude.{◌≡◌, ◌≤◌, true, length, is_ok, IfOk};
 
 use refusal::Refusal;

@@ -1,4 +1,6 @@
 // Tests of the library's public calls at their limits.
+#![tactic(auto)]
+
 #[cfg(test)]
 mod line_trials;
 #[cfg(test)]

@@ -1,4 +1,6 @@
 // Tests of readings, stores and walks on sheets that are read from text.
+#![tactic(auto)]
+
 #[cfg(test)]
 mod reading_trials;
 #[cfg(test)]

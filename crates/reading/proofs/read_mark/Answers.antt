@@ -2,12 +2,12 @@ use Rattle.std.proofs.Common.{◌≡◌, sym, refl, ap, ◌∙◌, subst, arith}
 use Rattle.reading.proofs.Marks.{fields_counted, checks_out, checks_in}
 use Rattle.reading.proofs.read_mark.Goals as goal
 
-pub in-ranges-requires : goal.in-ranges-requires
-in-ranges-requires c = c.requires.0 ∙ fields_counted c.args.sheet.now
+pub in_ranges-requires : goal.in_ranges-requires
+in_ranges-requires c = c.requires.0 ∙ fields_counted c.args.sheet.now
 
-pub returns-then-not-in-ranges : goal.returns-then-not-in-ranges
-returns-then-not-in-ranges c =
-    checks_out c.args.sheet.now c.args.mark.now c.args.fuel c.if-not-in-ranges.ensures
+pub returns-then-not-in_ranges : goal.returns-then-not-in_ranges
+returns-then-not-in_ranges c =
+    checks_out c.args.sheet.now c.args.mark.now c.args.fuel c.if-not-in_ranges.ensures
 
 pub read-result-requires : goal.read-result-requires
 read-result-requires c =
@@ -20,6 +20,6 @@ read-result-requires c =
 
 pub returns : goal.returns
 returns c =
-    checks_in c.args.sheet.now c.args.mark.now c.args.fuel c.if-not-in-ranges.ensures
+    checks_in c.args.sheet.now c.args.mark.now c.args.fuel c.if-not-in_ranges.ensures
     c.read-result.result c.read-result.new.fuel c.read-result.ensures.read
-    _ (c.verdict-on.ensures c.read-result.new.fuel)
+    _ (c.verdict_on.ensures c.read-result.new.fuel)

@@ -9,9 +9,9 @@ pub returns-then-out-line : goal.returns-then-out-line
 returns-then-out-line c = (refl, omega (arith, length_shown c.args.line.now), refl)
 
 pub bytes-requires : goal.bytes-requires
-bytes-requires c = omega (arith, c.shown-bytes-at.ensures.size, length-map c.args.line.now shown)
+bytes-requires c = omega (arith, c.shown_bytes-at.ensures.size, length-map c.args.line.now shown)
 
 pub returns : goal.returns
 returns c =
-    made_by_put (put_put c.shown-bytes-at.ensures c.bytes.ensures)
+    made_by_put (put_put c.shown_bytes-at.ensures c.bytes.ensures)
     (omega (arith, length_shown c.args.line.now))

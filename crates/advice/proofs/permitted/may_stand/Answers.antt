@@ -12,4 +12,4 @@ returns c =
     let all : to - 0 ≡ to = omega arith in
     let tried : take (to - 0) after ≡ before ++ (codes " " ++ example_of c.args.kind) =
     ap (λ n. take n after) all ∙ parts.front ∙ ap (λ w. before ++ (codes " " ++ w)) c.example.ensures in
-    (omega arith, subst (λ bytes. Decides c.goes-on.result (GoesOn bytes)) tried c.goes-on.ensures)
+    (omega arith, subst (λ bytes. Decides c.goes_on.result (GoesOn bytes)) tried c.goes_on.ensures)

@@ -8,7 +8,7 @@ returns c =
     let text = c.args.text.now in
     record {
       bytes = λ j.
-          take (c.line-end-end.ensures.value j - c.line-start-start.ensures j)
-          (drop (c.line-start-start.ensures j) text);
+          take (c.line_end-end.ensures.value j - c.line_start-start.ensures j)
+          (drop (c.line_start-start.ensures j) text);
       one_line = one_line text c.args.place;
     }

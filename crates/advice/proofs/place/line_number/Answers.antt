@@ -9,4 +9,4 @@ returns c =
     let place = c.args.place in
     let size : c.within-end.result - 0 ≡ length (take place text) = omega (arith, c.within-end.ensures.value) in
     let before = ap (λ n. take n text) size ∙ take_within text place in
-    ap (λ n. n + 1) (c.line-feeds.ensures.value ∙ ap (count_by is_line_feed) before)
+    ap (λ n. n + 1) (c.line_feeds.ensures.value ∙ ap (count_by is_line_feed) before)

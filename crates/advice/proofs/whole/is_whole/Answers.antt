@@ -4,7 +4,7 @@ use Rattle.advice.proofs.whole.is_whole.Goals as goal
 
 pub returns-in-Err-parse : goal.returns-in-Err-parse
 returns-in-Err-parse c =
-    let cut = c.in-default.ensures.found in (
+    let cut = c.in_default.ensures.found in (
       λ is. let z : ◌≡◌ {A = ℕ} 0 1 = cc in absurd (omega arith),
       λ w. absurd
           (whole_refused _ cut.0 _ _ c.survey.ensures.one_verdict_lem cut.1

@@ -4,7 +4,7 @@ use Rattle.grammar.proofs.formula.read_call.Goals as goal
 
 pub returns : goal.returns
 returns c =
-    let t = c.in-ok-terms.ensures in
+    let t = c.in_ok-terms.ensures in
     record {
       grown = c.push-body.ensures.grown;
       measured = (omega arith, omega (arith, t.0), omega arith);

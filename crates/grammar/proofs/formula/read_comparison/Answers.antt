@@ -4,8 +4,8 @@ use Rattle.grammar.proofs.formula.read_comparison.Goals as goal
 
 pub returns : goal.returns
 returns c =
-    let s = c.in-ok-sign.ensures in
-    let t = c.in-ok-right.ensures in
+    let s = c.in_ok-sign.ensures in
+    let t = c.in_ok-right.ensures in
     record {
       grown = c.push-body.ensures.grown;
       measured = (omega arith, omega (arith, s.0, t.0), omega arith);

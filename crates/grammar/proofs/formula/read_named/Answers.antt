@@ -10,29 +10,29 @@ returns-in-Opening c =
     let is = c.in-Opening.is in
     let r = real _ _ c.peek-ahead.result c.peek-ahead.ensures (λ e. no (cc)) in
     record {
-      grown = c.read-call.ensures.grown;
-      measured = measured_from _ _ _ (omega (arith, r.0)) c.read-call.ensures.measured;
+      grown = c.read_call.ensures.grown;
+      measured = measured_from _ _ _ (omega (arith, r.0)) c.read_call.ensures.measured;
       value = called_read _ _ c.peek-ahead.result c.peek-ahead.ensures c.args.word _ _ _ is
-          c.read-call.ensures.value;
+          c.read_call.ensures.value;
     }
 
-pub returns-in-err-left : goal.returns-in-err-left
-returns-in-err-left c =
+pub returns-in_err-left : goal.returns-in_err-left
+returns-in_err-left c =
     let q = err_from_is_err_and c.from-residual.result c.from-residual.ensures.1 in
     rw (q.1, q.2) (record {
       grown = grown_none c.args.table.now;
       measured = tt;
       value = sum_stops _ _ c.peek-ahead.result c.peek-ahead.ensures c.args.word
           c.args.table.now c.args.table.now _
-          c.in-default.not-Opening c.in-err-left.ensures;
+          c.in_default.not-Opening c.in_err-left.ensures;
     })
 
 pub returns : goal.returns
 returns c =
-    let s = c.in-ok-left.ensures in
+    let s = c.in_ok-left.ensures in
     record {
-      grown = c.read-comparison.ensures.grown;
-      measured = measured_from _ _ _ s.0 c.read-comparison.ensures.measured;
+      grown = c.read_comparison.ensures.grown;
+      measured = measured_from _ _ _ s.0 c.read_comparison.ensures.measured;
       value = compared_read _ _ c.peek-ahead.result c.peek-ahead.ensures c.args.word _ _ _ _
-          c.in-default.not-Opening s c.read-comparison.ensures.value;
+          c.in_default.not-Opening s c.read_comparison.ensures.value;
     }

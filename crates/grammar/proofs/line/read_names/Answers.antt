@@ -20,14 +20,14 @@ loop-name-init c =
     reading_first c.args.text.now WordEntry Word (word_of c.args.text.now) IsName names more_names
     (expects some_name) name_brackets
     _ c.peek-ahead.result _ c.peek-ahead.ensures c.requires
-    (record { room = refl; counts = refl; holds = refl }) c.in-default.not-Closing
+    (record { room = refl; counts = refl; holds = refl }) c.in_default.not-Closing
 
 pub loop-name-preserved : goal.loop-name-preserved
 loop-name-preserved c =
     reading_again c.args.text.now WordEntry Word (word_of c.args.text.now) IsName names more_names
     (expects some_name) name_brackets
     c.args.at c.loop-name.from _ c.loop-name.list c.keep.new.self
-    c.in-ok-name.name.value c.loop-name.invariant c.in-ok-name.ensures
+    c.in_ok-name.name.value c.loop-name.invariant c.in_ok-name.ensures
     c.keep.ensures.counts c.keep.ensures.holds c.peek-ahead-in-loop-name.result
     c.peek-ahead-in-loop-name.ensures c.in-Comma.is
 
@@ -36,16 +36,16 @@ returns-in-Closing-class c =
     list_read c.args.text.now WordEntry Word (word_of c.args.text.now) IsName names more_names
     (expects some_name) name_brackets
     c.args.at c.loop-name.from _ c.loop-name.list c.keep.new.self
-    c.in-ok-name.name.value c.loop-name.invariant c.in-ok-name.ensures
+    c.in_ok-name.name.value c.loop-name.invariant c.in_ok-name.ensures
     c.keep.ensures.counts c.keep.ensures.holds c.peek-ahead-in-loop-name.result
     c.peek-ahead-in-loop-name.ensures c.in-Closing-class.is
 
-pub returns-in-default-class : goal.returns-in-default-class
-returns-in-default-class c =
+pub returns-in_default-class : goal.returns-in_default-class
+returns-in_default-class c =
     list_stops c.args.text.now WordEntry Word (word_of c.args.text.now) IsName names more_names
     (expects some_name) name_brackets
     c.args.at c.loop-name.from _ c.loop-name.list c.keep.new.self
-    c.in-ok-name.name.value c.loop-name.invariant c.in-ok-name.ensures
+    c.in_ok-name.name.value c.loop-name.invariant c.in_ok-name.ensures
     c.keep.ensures.counts c.keep.ensures.holds c.peek-ahead-in-loop-name.result
     c.peek-ahead-in-loop-name.ensures
-    _ c.not_permitted.ensures c.in-default-class.not-Comma c.in-default-class.not-Closing
+    _ c.not_permitted.ensures c.in_default-class.not-Comma c.in_default-class.not-Closing

@@ -4,14 +4,14 @@ use Rattle.grammar.proofs.sheet.read_first.Goals as goal
 
 pub returns-in-Field : goal.returns-in-Field
 returns-in-Field c = record {
-  entries = c.read-field.ensures.entries;
+  entries = c.read_field.ensures.entries;
   value = first_read c.args.text.now c.peek-ahead.result c.peek-ahead.ensures
-      c.args.table.now _ _ c.in-Field.is c.read-field.ensures.value;
+      c.args.table.now _ _ c.in-Field.is c.read_field.ensures.value;
 }
 
-pub returns-in-default : goal.returns-in-default
-returns-in-default c = record {
+pub returns-in_default : goal.returns-in_default
+returns-in_default c = record {
   entries = refl;
   value = first_stops c.args.text.now c.peek-ahead.result c.peek-ahead.ensures
-      c.args.table.now _ c.not_permitted.ensures c.in-default.not-Field;
+      c.args.table.now _ c.not_permitted.ensures c.in_default.not-Field;
 }

@@ -11,25 +11,25 @@ loop-table-init c = (
 
 pub loop-table-preserved : goal.loop-table-preserved
 loop-table-preserved c =
-    let o = c.in-ok-from.ensures in (
+    let o = c.in_ok-from.ensures in (
       o.room,
       rules_more c.args.text.now c.args.at c.args.table.now c.loop-table.table
           c.loop-table.from c.peek-ahead.result c.peek-ahead.ensures _ c.loop-table.invariant.1
           c.in-Rule.is o.value,
     )
 
-pub returns-in-default : goal.returns-in-default
-returns-in-default c = record {
+pub returns-in_default : goal.returns-in_default
+returns-in_default c = record {
   room = c.loop-table.invariant.0;
   value = rules_end c.args.text.now c.args.at c.args.table.now c.loop-table.table
       c.loop-table.from c.peek-ahead.result c.peek-ahead.ensures c.loop-table.invariant.1
-      c.in-default.not-Rule;
+      c.in_default.not-Rule;
 }
 
-pub returns-in-err-from : goal.returns-in-err-from
-returns-in-err-from c =
+pub returns-in_err-from : goal.returns-in_err-from
+returns-in_err-from c =
     let q = err_from_is_err_and c.from-residual.result c.from-residual.ensures.1 in
-    let o = c.in-err-from.ensures in
+    let o = c.in_err-from.ensures in
     rw (q.1, q.2) (record {
       room = o.room;
       value = rules_stop c.args.text.now c.args.at c.args.table.now c.loop-table.table

@@ -8,9 +8,9 @@ returns-in-Number c = constant_read _ _ c.peek-ahead.result c.peek-ahead.ensures
 pub returns-in-Name : goal.returns-in-Name
 returns-in-Name c =
     named_read _ _ c.peek-ahead.result c.peek-ahead.ensures c.in-Name.word _ c.in-Name.is
-    c.read-sum.ensures
+    c.read_sum.ensures
 
-pub returns-in-default : goal.returns-in-default
-returns-in-default c =
+pub returns-in_default : goal.returns-in_default
+returns-in_default c =
     term_stops _ _ c.peek-ahead.result c.peek-ahead.ensures _ c.not_permitted.ensures
-    c.in-default.not-Name c.in-default.not-Number
+    c.in_default.not-Name c.in_default.not-Number

@@ -20,14 +20,14 @@ loop-term-init c =
     reading_first c.args.text.now TermEntry Term (term_of c.args.text.now) IsTerm terms more_terms
     term term_brackets
     _ c.peek-ahead.result _ c.peek-ahead.ensures c.requires
-    (record { room = refl; counts = refl; holds = refl }) c.in-default.not-Closing
+    (record { room = refl; counts = refl; holds = refl }) c.in_default.not-Closing
 
 pub loop-term-preserved : goal.loop-term-preserved
 loop-term-preserved c =
     reading_again c.args.text.now TermEntry Term (term_of c.args.text.now) IsTerm terms more_terms
     term term_brackets
     c.args.at c.loop-term.from _ c.loop-term.list c.keep.new.self
-    c.in-ok-term.term.value c.loop-term.invariant c.in-ok-term.ensures
+    c.in_ok-term.term.value c.loop-term.invariant c.in_ok-term.ensures
     c.keep.ensures.counts c.keep.ensures.holds c.peek-ahead-in-loop-term.result
     c.peek-ahead-in-loop-term.ensures c.in-Comma.is
 
@@ -36,16 +36,16 @@ returns-in-Closing-class c =
     list_read c.args.text.now TermEntry Term (term_of c.args.text.now) IsTerm terms more_terms term
     term_brackets
     c.args.at c.loop-term.from _ c.loop-term.list c.keep.new.self
-    c.in-ok-term.term.value c.loop-term.invariant c.in-ok-term.ensures
+    c.in_ok-term.term.value c.loop-term.invariant c.in_ok-term.ensures
     c.keep.ensures.counts c.keep.ensures.holds c.peek-ahead-in-loop-term.result
     c.peek-ahead-in-loop-term.ensures c.in-Closing-class.is
 
-pub returns-in-default-class : goal.returns-in-default-class
-returns-in-default-class c =
+pub returns-in_default-class : goal.returns-in_default-class
+returns-in_default-class c =
     list_stops c.args.text.now TermEntry Term (term_of c.args.text.now) IsTerm terms more_terms term
     term_brackets
     c.args.at c.loop-term.from _ c.loop-term.list c.keep.new.self
-    c.in-ok-term.term.value c.loop-term.invariant c.in-ok-term.ensures
+    c.in_ok-term.term.value c.loop-term.invariant c.in_ok-term.ensures
     c.keep.ensures.counts c.keep.ensures.holds c.peek-ahead-in-loop-term.result
     c.peek-ahead-in-loop-term.ensures
-    _ c.not_permitted.ensures c.in-default-class.not-Comma c.in-default-class.not-Closing
+    _ c.not_permitted.ensures c.in_default-class.not-Comma c.in_default-class.not-Closing

@@ -5,7 +5,7 @@ pub returns-in-Name : goal.returns-in-Name
 returns-in-Name c = name_read _ _ c.peek-ahead.result c.peek-ahead.ensures c.in-Name.word
     c.in-Name.is
 
-pub returns-in-default : goal.returns-in-default
-returns-in-default c =
+pub returns-in_default : goal.returns-in_default
+returns-in_default c =
     name_stops _ _ c.peek-ahead.result c.peek-ahead.ensures _ c.not_permitted.ensures
-    c.in-default.not-Name
+    c.in_default.not-Name

@@ -5,7 +5,7 @@ pub returns-in-Number : goal.returns-in-Number
 returns-in-Number c = number_read _ _ c.peek-ahead.result c.peek-ahead.ensures c.in-Number.value
     c.in-Number.is
 
-pub returns-in-default : goal.returns-in-default
-returns-in-default c =
+pub returns-in_default : goal.returns-in_default
+returns-in_default c =
     number_stops _ _ c.peek-ahead.result c.peek-ahead.ensures _ c.not_permitted.ensures
-    c.in-default.not-Number
+    c.in_default.not-Number

@@ -5,7 +5,7 @@ pub returns-in-Compare : goal.returns-in-Compare
 returns-in-Compare c = sign_read _ _ c.peek-ahead.result c.peek-ahead.ensures c.in-Compare.sign
     c.in-Compare.is
 
-pub returns-in-default : goal.returns-in-default
-returns-in-default c =
+pub returns-in_default : goal.returns-in_default
+returns-in_default c =
     sign_stops _ _ c.peek-ahead.result c.peek-ahead.ensures _ c.not_permitted.ensures
-    c.in-default.not-Compare
+    c.in_default.not-Compare

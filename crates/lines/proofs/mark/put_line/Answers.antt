@@ -13,8 +13,8 @@ number-at-requires c =
     let whole = length_mark_text_first c.args.mark.now (omega (arith, leb-false)) in
     omega (arith, c.requires)
 
-pub put-further-requires : goal.put-further-requires
-put-further-requires c =
+pub put_further-requires : goal.put_further-requires
+put_further-requires c =
     let whole = length_mark_text_first c.args.mark.now (omega (arith, leb-false)) in
     omega (arith, c.requires, c.number-at.ensures.size)
 
@@ -22,12 +22,12 @@ pub returns : goal.returns
 returns c =
     let mark = c.args.mark.now in
     let out = c.args.out.now in
-    let after = c.put-further.new.out in
-    let n = c.put-further.result in
-    let parts = put_put c.number-at.ensures c.put-further.ensures in
+    let after = c.put_further.new.out in
+    let n = c.put_further.result in
+    let parts = put_put c.number-at.ensures c.put_further.ensures in
     let whole : Put out 0 (mark_text mark) after n =
     subst (λ xs. Put out 0 xs after n) (sym (mark_text_first mark (omega (arith, leb-false)))) parts in
-    let small = All-from_get_or (λ k. k < 2 ^ 64) mark 0 (λ i inside. omega (arith, c.type-inv.mark i)) in
+    let small = All-from_get_or (λ k. k < 2 ^ 64) mark 0 (λ i inside. omega (arith, c.type_inv.mark i)) in
     record {
       made = made_by_put whole c.requires;
       read_back = ap numbers_of whole.front ∙ read_back mark small;

@@ -3,8 +3,8 @@ use Rattle.std.proofs.lemmas.Fmt.{length-decimal-le}
 use Rattle.lines.proofs.Putting.{length_decimal_digit, length_decimal_step}
 use Rattle.lines.proofs.put.width.Goals as goal
 
-pub overflow-add-digits : goal.overflow-add-digits
-overflow-add-digits c =
+pub overflow_add-digits : goal.overflow_add-digits
+overflow_add-digits c =
     let few = length-decimal-le 20 c.args.value (omega arith) (omega arith) (omega arith) in
     omega (arith, c.loop-front.invariant.0)
 

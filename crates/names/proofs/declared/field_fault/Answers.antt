@@ -17,7 +17,7 @@ returns-in-Some c =
 pub returns-then-field : goal.returns-then-field
 returns-then-field c =
     let f = field_at c.args.fields.now c.args.i in
-    let none = c.in-default.ensures.found in
+    let none = c.in_default.ensures.found in
     record {
       settled = λ lt. range_first (map (field_of c.args.text.now) (take c.args.i c.args.fields.now)) f.first (word_of c.args.text.now f.name) f.low.value f.low.place f.high.value f.high.place (few_above (field_of c.args.text.now) c.args.i c.args.fields.now c.requires)
           (λ t. let s = fields_from c.args.text.now f.name (take c.args.i c.args.fields.now) t in none s.0 s.1 s.2 s.3)
@@ -28,7 +28,7 @@ returns-then-field c =
 pub returns : goal.returns
 returns c =
     let f = field_at c.args.fields.now c.args.i in
-    let none = c.in-default.ensures.found in
+    let none = c.in_default.ensures.found in
     record {
       settled = λ lt. field_faultless (map (field_of c.args.text.now) (take c.args.i c.args.fields.now)) f.first (word_of c.args.text.now f.name) f.low.value f.low.place f.high.value f.high.place (few_above (field_of c.args.text.now) c.args.i c.args.fields.now c.requires)
           (λ t. let s = fields_from c.args.text.now f.name (take c.args.i c.args.fields.now) t in none s.0 s.1 s.2 s.3)

@@ -23,7 +23,7 @@ returns-in-Some c =
 pub loop-i-preserved : goal.loop-i-preserved
 loop-i-preserved c =
     none_more (Declares c.args.text.now c.args.name) c.args.rules.now c.args.below c.loop-i.i no_rule_line c.loop-i.invariant
-    (λ h. ⊎_elim c.if-alike.ensures (λ x. c.in-default.ensures.found x.0 x.1 x.2 x.3) h)
+    (λ h. ⊎_elim c.if-alike.ensures (λ x. c.in_default.ensures.found x.0 x.1 x.2 x.3) h)
 
 pub returns-else-i-lt16 : goal.returns-else-i-lt16
 returns-else-i-lt16 c =

@@ -10,29 +10,29 @@ returns-in-Some c =
     λ above w ps hs ew ec ep few up.
     place_at c.args.text.now c.args.rule.name w ew (own_first c.args.text.now c.args.table.now c.args.l c.args.rule above w ps hs ew ec ep up (own_field c.args.text.now c.args.table.now c.args.l c.args.rule above w ps hs ew ec ep up (_, h.0, h.1, h.2)))
 
-pub returns-then-is-declared : goal.returns-then-is-declared
-returns-then-is-declared c =
+pub returns-then-is_declared : goal.returns-then-is_declared
+returns-then-is_declared c =
     λ above w ps hs ew ec ep few up.
-    place_at c.args.text.now c.args.rule.name w ew (own_first c.args.text.now c.args.table.now c.args.l c.args.rule above w ps hs ew ec ep up (own_declared c.args.text.now c.args.table.now c.args.l c.args.rule above w ps hs ew ec ep up c.if-is-declared.ensures))
+    place_at c.args.text.now c.args.rule.name w ew (own_first c.args.text.now c.args.table.now c.args.l c.args.rule above w ps hs ew ec ep up (own_declared c.args.text.now c.args.table.now c.args.l c.args.rule above w ps hs ew ec ep up c.if-is_declared.ensures))
 
-pub returns-then-is-param-taken : goal.returns-then-is-param-taken
-returns-then-is-param-taken c =
+pub returns-then-is_param_taken : goal.returns-then-is_param_taken
+returns-then-is_param_taken c =
     λ above w ps hs ew ec ep few up.
     param_first c.args.text.now c.args.table.now c.args.l c.args.rule above w ps hs ew ec ep up c.loop-k.k (omega arith) (omega arith)
-    (own_none c.args.text.now c.args.table.now c.args.l c.args.rule above w ps hs ew ec ep up c.in-default.ensures.found c.if-is-declared.ensures)
-    c.loop-k.invariant c.if-is-param-taken.ensures
+    (own_none c.args.text.now c.args.table.now c.args.l c.args.rule above w ps hs ew ec ep up c.in_default.ensures.found c.if-is_declared.ensures)
+    c.loop-k.invariant c.if-is_param_taken.ensures
 
 pub loop-k-preserved : goal.loop-k-preserved
-loop-k-preserved c = below_more _ _ c.loop-k.invariant c.if-is-param-taken.ensures
+loop-k-preserved c = below_more _ _ c.loop-k.invariant c.if-is_param_taken.ensures
 
 pub returns-after-loop-k : goal.returns-after-loop-k
 returns-after-loop-k c =
     λ above w ps hs ew ec ep few up.
     names_none c.args.text.now c.args.table.now c.args.l c.args.rule above w ps hs ew ec ep up c.loop-k.k (omega arith)
-    (own_none c.args.text.now c.args.table.now c.args.l c.args.rule above w ps hs ew ec ep up c.in-default.ensures.found c.if-is-declared.ensures) c.loop-k.invariant
+    (own_none c.args.text.now c.args.table.now c.args.l c.args.rule above w ps hs ew ec ep up c.in_default.ensures.found c.if-is_declared.ensures) c.loop-k.invariant
 
 pub returns-else-k-lt4 : goal.returns-else-k-lt4
 returns-else-k-lt4 c =
     λ above w ps hs ew ec ep few up.
     names_none c.args.text.now c.args.table.now c.args.l c.args.rule above w ps hs ew ec ep up c.loop-k.k (omega arith)
-    (own_none c.args.text.now c.args.table.now c.args.l c.args.rule above w ps hs ew ec ep up c.in-default.ensures.found c.if-is-declared.ensures) c.loop-k.invariant
+    (own_none c.args.text.now c.args.table.now c.args.l c.args.rule above w ps hs ew ec ep up c.in_default.ensures.found c.if-is_declared.ensures) c.loop-k.invariant

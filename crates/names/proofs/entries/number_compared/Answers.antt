@@ -2,20 +2,20 @@ use Rattle.std.proofs.lemmas.Result.{err_from_is_err_and}
 use Rattle.names.proofs.Settled.{left_refused, right_refused, compared_settled}
 use Rattle.names.proofs.entries.number_compared.Goals as goal
 
-pub returns-in-err-x : goal.returns-in-err-x
-returns-in-err-x c =
+pub returns-in_err-x : goal.returns-in_err-x
+returns-in_err-x c =
     let p = err_from_is_err_and c.from-residual.result c.from-residual.ensures.1 in
     rw (p.1, p.2)
-    (λ below. left_refused c.args.text.now c.args.table.now c.args.params.now c.args.count below c.args.sign c.args.left c.args.right c.in-err-x.field-0.0 c.in-err-x.ensures)
+    (λ below. left_refused c.args.text.now c.args.table.now c.args.params.now c.args.count below c.args.sign c.args.left c.args.right c.in_err-x.field-0.0 c.in_err-x.ensures)
 
-pub returns-in-err-y : goal.returns-in-err-y
-returns-in-err-y c =
-    let p = err_from_is_err_and c.from-residual-in-err-y.result c.from-residual-in-err-y.ensures.1 in
+pub returns-in_err-y : goal.returns-in_err-y
+returns-in_err-y c =
+    let p = err_from_is_err_and c.from-residual-in_err-y.result c.from-residual-in_err-y.ensures.1 in
     rw (p.1, p.2)
     (λ below. right_refused c.args.text.now c.args.table.now c.args.params.now c.args.count below c.args.sign c.args.left c.args.right
-    c.in-ok-x.x c.in-err-y.field-0.0 c.in-ok-x.ensures c.in-err-y.ensures)
+    c.in_ok-x.x c.in_err-y.field-0.0 c.in_ok-x.ensures c.in_err-y.ensures)
 
 pub returns : goal.returns
 returns c =
     λ below. compared_settled c.args.text.now c.args.table.now c.args.params.now c.args.count below c.args.sign c.args.left c.args.right
-    c.in-ok-x.x c.in-ok-y.y c.in-ok-x.ensures c.in-ok-y.ensures
+    c.in_ok-x.x c.in_ok-y.y c.in_ok-x.ensures c.in_ok-y.ensures

@@ -10,11 +10,11 @@ loop-i-init c =
 
 pub loop-i-preserved : goal.loop-i-preserved
 loop-i-preserved c =
-    elim c.match-number-entry.branch [
+    elim c.match-number_entry.branch [
       | in_Ok w ↦
           let len : c.loop-i.i < length c.loop-i.nodes = omega (arith, c.loop-i.invariant.1) in
           goes_at c.args.text.now c.args.table.now c.args.params.now c.args.count c.args.below c.args.start (c.args.body + 1) (c.loop-i.i + 1) c.args.nodes.now
-          c.match-number-entry.nodes (set c.loop-i.nodes c.loop-i.i w.in_Ok.node) c.match-number-entry.first c.loop-i.first
+          c.match-number_entry.nodes (set c.loop-i.nodes c.loop-i.i w.in_Ok.node) c.match-number_entry.first c.loop-i.first
           w.nodes-is w.first_is (
             (omega arith, inl (omega arith)),
             length-set c.loop-i.nodes c.loop-i.i w.in_Ok.node ∙ c.loop-i.invariant.1,
@@ -24,7 +24,7 @@ loop-i-preserved c =
           )
       | in_Err w ↦
           goes_at c.args.text.now c.args.table.now c.args.params.now c.args.count c.args.below c.args.start (c.args.body + 1) (c.loop-i.i + 1) c.args.nodes.now
-          c.match-number-entry.nodes c.loop-i.nodes c.match-number-entry.first (Some w.sooner.result)
+          c.match-number_entry.nodes c.loop-i.nodes c.match-number_entry.first (Some w.sooner.result)
           w.nodes-is w.first_is (
             (omega arith, inl (omega arith)),
             c.loop-i.invariant.1,

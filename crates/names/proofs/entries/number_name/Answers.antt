@@ -6,12 +6,12 @@ returns-in-Some c =
     field_settled c.args.text.now c.args.table.now c.args.params.now c.args.count c.args.name c.in-Some.i
     c.in-Some.ensures.found
 
-pub returns-in-Some-find-param : goal.returns-in-Some-find-param
-returns-in-Some-find-param c =
-    param_settled c.args.text.now c.args.table.now c.args.params.now c.args.count c.args.name c.in-Some-find-param.i
-    c.in-Some-find-param.ensures.found
+pub returns-in-Some-find_param : goal.returns-in-Some-find_param
+returns-in-Some-find_param c =
+    param_settled c.args.text.now c.args.table.now c.args.params.now c.args.count c.args.name c.in-Some-find_param.i
+    c.in-Some-find_param.ensures.found
 
 pub returns : goal.returns
 returns c =
     unknown_settled c.args.text.now c.args.table.now c.args.params.now c.args.count c.args.name
-    c.in-default.ensures.found c.in-default-find-param.ensures.found
+    c.in_default.ensures.found c.in_default-find_param.ensures.found

@@ -13,50 +13,50 @@ returns-in-Constant c =
     subst (λ z. TermSettled c.args.text.now c.args.table.now c.args.params.now c.args.count z (Ok (NumberTerm c.in-Constant.n)))
     (sym c.in-Constant.is) (λ rs. (no_uses, constant_is))
 
-pub returns-in-err-name : goal.returns-in-err-name
-returns-in-err-name c =
+pub returns-in_err-name : goal.returns-in_err-name
+returns-in_err-name c =
     let p = err_from_is_err_and c.from-residual.result c.from-residual.ensures.1 in
     rw (p.1, p.2)
-    (subst (λ z. TermSettled c.args.text.now c.args.table.now c.args.params.now c.args.count z (Err c.in-err-name.field-0.0))
+    (subst (λ z. TermSettled c.args.text.now c.args.table.now c.args.params.now c.args.count z (Err c.in_err-name.field-0.0))
     (sym c.in-Bare.is)
-    (term_refused c.args.text.now c.args.table.now c.args.params.now c.args.count c.in-Bare.w (Bare c.in-Bare.w) c.in-err-name.field-0.0 refl
-    c.in-err-name.ensures))
+    (term_refused c.args.text.now c.args.table.now c.args.params.now c.args.count c.in-Bare.w (Bare c.in-Bare.w) c.in_err-name.field-0.0 refl
+    c.in_err-name.ensures))
 
-pub returns-in-ok-name : goal.returns-in-ok-name
-returns-in-ok-name c =
-    subst (λ z. TermSettled c.args.text.now c.args.table.now c.args.params.now c.args.count z (Ok (BareTerm c.in-ok-name.name)))
+pub returns-in_ok-name : goal.returns-in_ok-name
+returns-in_ok-name c =
+    subst (λ z. TermSettled c.args.text.now c.args.table.now c.args.params.now c.args.count z (Ok (BareTerm c.in_ok-name.name)))
     (sym c.in-Bare.is)
     (term_named c.args.text.now c.args.table.now c.args.params.now c.args.count c.in-Bare.w (Bare c.in-Bare.w)
-    c.in-ok-name.name (BareTerm c.in-ok-name.name) refl bare_is c.in-ok-name.ensures)
+    c.in_ok-name.name (BareTerm c.in_ok-name.name) refl bare_is c.in_ok-name.ensures)
 
-pub returns-in-err-name-2 : goal.returns-in-err-name-2
-returns-in-err-name-2 c =
-    let p = err_from_is_err_and c.from-residual-in-err-name-2.result c.from-residual-in-err-name-2.ensures.1 in
+pub returns-in_err-name-2 : goal.returns-in_err-name-2
+returns-in_err-name-2 c =
+    let p = err_from_is_err_and c.from-residual-in_err-name-2.result c.from-residual-in_err-name-2.ensures.1 in
     rw (p.1, p.2)
-    (subst (λ z. TermSettled c.args.text.now c.args.table.now c.args.params.now c.args.count z (Err c.in-err-name-2.field-0.0))
+    (subst (λ z. TermSettled c.args.text.now c.args.table.now c.args.params.now c.args.count z (Err c.in_err-name-2.field-0.0))
     (sym c.in-Raised.is)
-    (term_refused c.args.text.now c.args.table.now c.args.params.now c.args.count c.in-Raised.w (Raised c.in-Raised.w c.in-Raised.n) c.in-err-name-2.field-0.0 refl
-    c.in-err-name-2.ensures))
+    (term_refused c.args.text.now c.args.table.now c.args.params.now c.args.count c.in-Raised.w (Raised c.in-Raised.w c.in-Raised.n) c.in_err-name-2.field-0.0 refl
+    c.in_err-name-2.ensures))
 
-pub returns-in-ok-name-2 : goal.returns-in-ok-name-2
-returns-in-ok-name-2 c =
-    subst (λ z. TermSettled c.args.text.now c.args.table.now c.args.params.now c.args.count z (Ok (Moved c.in-ok-name-2.name (Up c.in-Raised.n))))
+pub returns-in_ok-name-2 : goal.returns-in_ok-name-2
+returns-in_ok-name-2 c =
+    subst (λ z. TermSettled c.args.text.now c.args.table.now c.args.params.now c.args.count z (Ok (Moved c.in_ok-name-2.name (Up c.in-Raised.n))))
     (sym c.in-Raised.is)
     (term_named c.args.text.now c.args.table.now c.args.params.now c.args.count c.in-Raised.w (Raised c.in-Raised.w c.in-Raised.n)
-    c.in-ok-name-2.name (Moved c.in-ok-name-2.name (Up c.in-Raised.n)) refl raised_is c.in-ok-name-2.ensures)
+    c.in_ok-name-2.name (Moved c.in_ok-name-2.name (Up c.in-Raised.n)) refl raised_is c.in_ok-name-2.ensures)
 
-pub returns-in-err-name-3 : goal.returns-in-err-name-3
-returns-in-err-name-3 c =
-    let p = err_from_is_err_and c.from-residual-in-err-name-3.result c.from-residual-in-err-name-3.ensures.1 in
+pub returns-in_err-name-3 : goal.returns-in_err-name-3
+returns-in_err-name-3 c =
+    let p = err_from_is_err_and c.from-residual-in_err-name-3.result c.from-residual-in_err-name-3.ensures.1 in
     rw (p.1, p.2)
-    (subst (λ z. TermSettled c.args.text.now c.args.table.now c.args.params.now c.args.count z (Err c.in-err-name-3.field-0.0))
+    (subst (λ z. TermSettled c.args.text.now c.args.table.now c.args.params.now c.args.count z (Err c.in_err-name-3.field-0.0))
     (sym c.in-Lowered.is)
-    (term_refused c.args.text.now c.args.table.now c.args.params.now c.args.count c.in-Lowered.w (Lowered c.in-Lowered.w c.in-Lowered.n) c.in-err-name-3.field-0.0 refl
-    c.in-err-name-3.ensures))
+    (term_refused c.args.text.now c.args.table.now c.args.params.now c.args.count c.in-Lowered.w (Lowered c.in-Lowered.w c.in-Lowered.n) c.in_err-name-3.field-0.0 refl
+    c.in_err-name-3.ensures))
 
-pub returns-in-ok-name-3 : goal.returns-in-ok-name-3
-returns-in-ok-name-3 c =
-    subst (λ z. TermSettled c.args.text.now c.args.table.now c.args.params.now c.args.count z (Ok (Moved c.in-ok-name-3.name (Down c.in-Lowered.n))))
+pub returns-in_ok-name-3 : goal.returns-in_ok-name-3
+returns-in_ok-name-3 c =
+    subst (λ z. TermSettled c.args.text.now c.args.table.now c.args.params.now c.args.count z (Ok (Moved c.in_ok-name-3.name (Down c.in-Lowered.n))))
     (sym c.in-Lowered.is)
     (term_named c.args.text.now c.args.table.now c.args.params.now c.args.count c.in-Lowered.w (Lowered c.in-Lowered.w c.in-Lowered.n)
-    c.in-ok-name-3.name (Moved c.in-ok-name-3.name (Down c.in-Lowered.n)) refl lowered_is c.in-ok-name-3.ensures)
+    c.in_ok-name-3.name (Moved c.in_ok-name-3.name (Down c.in-Lowered.n)) refl lowered_is c.in_ok-name-3.ensures)

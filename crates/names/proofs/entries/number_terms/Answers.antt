@@ -27,14 +27,14 @@ zero_terms j h =
 pub loop-i-init : goal.loop-i-init
 loop-i-init c = (omega arith, (refl, zero_terms), λ rs. no_uses, end)
 
-pub returns-in-err-known : goal.returns-in-err-known
-returns-in-err-known c =
+pub returns-in_err-known : goal.returns-in_err-known
+returns-in_err-known c =
     let p = err_from_is_err_and c.from-residual.result c.from-residual.ensures.1 in
     let s = take_split c.args.terms.now c.args.n c.loop-i.i (Constant 0) c.loop-i-test.true (omega arith) in
     rw (p.1, p.2)
     (λ rs up.
     terms_first c.args.text.now (take c.loop-i.i c.args.terms.now) s.0 (get_or c.args.terms.now c.loop-i.i (Constant 0))
-    (take c.args.n c.args.terms.now) s.1 up (c.loop-i.invariant.2 rs) (c.in-err-known.ensures rs))
+    (take c.args.n c.args.terms.now) s.1 up (c.loop-i.invariant.2 rs) (c.in_err-known.ensures rs))
 
 pub loop-i-preserved : goal.loop-i-preserved
 loop-i-preserved c =
@@ -43,18 +43,18 @@ loop-i-preserved c =
     let len : c.loop-i.i < length c.args.terms.now = omega arith in
     let len' : c.loop-i.i < length c.loop-i.numbered = omega (arith, c.loop-i.invariant.1.0) in
     let e = take_more c.args.terms.now c.loop-i.i (Constant 0) len in
-    let d = take_more_set c.loop-i.numbered c.loop-i.i c.in-ok-known.known len' in
+    let d = take_more_set c.loop-i.numbered c.loop-i.i c.in_ok-known.known len' in
     let R : Term → tree.Term → Type 0 = TermIs (fields_of text c.args.table.now) (names_of text c.args.params.now c.args.count) in (
       omega arith,
       (
-        length-set c.loop-i.numbered c.loop-i.i c.in-ok-known.known ∙ c.loop-i.invariant.1.0,
+        length-set c.loop-i.numbered c.loop-i.i c.in_ok-known.known ∙ c.loop-i.invariant.1.0,
         λ j h. let other : j ≢ c.loop-i.i = omega arith in
-            get_or-set_other c.loop-i.numbered c.loop-i.i j c.in-ok-known.known (SheetNumber 0) other ∙ c.loop-i.invariant.1.1 j (omega arith),
+            get_or-set_other c.loop-i.numbered c.loop-i.i j c.in_ok-known.known (SheetNumber 0) other ∙ c.loop-i.invariant.1.1 j (omega arith),
       ),
-      λ rs. terms_more text (take c.loop-i.i c.args.terms.now) x _ e (c.loop-i.invariant.2 rs) (c.in-ok-known.ensures rs).0,
+      λ rs. terms_more text (take c.loop-i.i c.args.terms.now) x _ e (c.loop-i.invariant.2 rs) (c.in_ok-known.ensures rs).0,
       each_more R (term_of text) number_term (take c.loop-i.i c.args.terms.now) (take (c.loop-i.i + 1) c.args.terms.now) x
-          (take c.loop-i.i c.loop-i.numbered) (take (c.loop-i.i + 1) (set c.loop-i.numbered c.loop-i.i c.in-ok-known.known))
-          c.in-ok-known.known e d c.loop-i.invariant.3 (c.in-ok-known.ensures []).1,
+          (take c.loop-i.i c.loop-i.numbered) (take (c.loop-i.i + 1) (set c.loop-i.numbered c.loop-i.i c.in_ok-known.known))
+          c.in_ok-known.known e d c.loop-i.invariant.3 (c.in_ok-known.ensures []).1,
     )
 
 pub returns : goal.returns

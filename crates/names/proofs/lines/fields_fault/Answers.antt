@@ -13,7 +13,7 @@ returns-in-Some c =
 pub loop-i-preserved : goal.loop-i-preserved
 loop-i-preserved c =
     fields_more c.args.text.now c.args.table.now c.loop-i.i c.loop-i-test.true
-    (omega (arith, c.in-default.ensures.long)) c.loop-i.invariant c.in-default.ensures.settled
+    (omega (arith, c.in_default.ensures.long)) c.loop-i.invariant c.in_default.ensures.settled
 
 pub returns-else-i-lt8 : goal.returns-else-i-lt8
 returns-else-i-lt8 c = fields_all c.args.text.now c.args.table.now c.loop-i.i (inr (omega arith)) c.loop-i.invariant

@@ -7,7 +7,7 @@ pub returns : goal.returns
 returns c =
     record {
       settled =
-          mark_settled c.args.text.now c.args.table.now 0 c.number-entries.new.nodes (no_word ∷ no_word ∷ no_word ∷ no_word ∷ []) c.number-entries.result
-          c.number-entries.ensures.settled;
-      outside = c.number-entries.ensures.outside;
+          mark_settled c.args.text.now c.args.table.now 0 c.number_entries.new.nodes (no_word ∷ no_word ∷ no_word ∷ no_word ∷ []) c.number_entries.result
+          c.number_entries.ensures.settled;
+      outside = c.number_entries.ensures.outside;
     }

@@ -14,8 +14,8 @@ pub returns : goal.returns
 returns c =
     record {
       settled =
-          rule_settled c.args.text.now c.args.table.now c.args.l c.number-entries.new.nodes c.number-entries.result (omega arith)
-          c.in-default.ensures c.number-entries.ensures.settled;
-      outside = c.number-entries.ensures.outside;
+          rule_settled c.args.text.now c.args.table.now c.args.l c.number_entries.new.nodes c.number_entries.result (omega arith)
+          c.in_default.ensures c.number_entries.ensures.settled;
+      outside = c.number_entries.ensures.outside;
       long = omega arith;
     }

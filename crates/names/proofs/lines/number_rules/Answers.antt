@@ -8,13 +8,13 @@ loop-l-init c = (rules_none c.args.text.now c.args.table.now c.args.nodes.now, c
 pub returns-in-Some : goal.returns-in-Some
 returns-in-Some c =
     rule_refused c.args.text.now c.args.table.now c.loop-l.l c.loop-l-test.true (omega (arith, c.in-Some.ensures.long))
-    c.in-Some.fault c.loop-l.nodes c.number-rule.new.nodes c.loop-l.invariant.0 c.in-Some.ensures.settled
+    c.in-Some.fault c.loop-l.nodes c.number_rule.new.nodes c.loop-l.invariant.0 c.in-Some.ensures.settled
 
 pub loop-l-preserved : goal.loop-l-preserved
 loop-l-preserved c = (
-  rules_more c.args.text.now c.args.table.now c.loop-l.l c.loop-l-test.true (omega (arith, c.in-default.ensures.long))
-      c.loop-l.nodes c.number-rule.new.nodes c.loop-l.invariant.0 c.in-default.ensures.settled c.in-default.ensures.outside,
-  c.number-rule.array_long,
+  rules_more c.args.text.now c.args.table.now c.loop-l.l c.loop-l-test.true (omega (arith, c.in_default.ensures.long))
+      c.loop-l.nodes c.number_rule.new.nodes c.loop-l.invariant.0 c.in_default.ensures.settled c.in_default.ensures.outside,
+  c.number_rule.array_long,
 )
 
 pub returns-else-l-lt16 : goal.returns-else-l-lt16

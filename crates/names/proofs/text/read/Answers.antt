@@ -11,7 +11,7 @@ returns-in-Ok-resolve c =
     let w = c.in_Ok.ensures in
     let named = c.in-Ok-resolve.ensures w.sheet w.holds w.well in
     record {
-      reads = (spelt w.cut w.is named, c.contents-of.ensures w.sheet _ w.holds named);
+      reads = (spelt w.cut w.is named, c.contents_of.ensures w.sheet _ w.holds named);
       one_reading = one_reading c.args.text.now;
     }
 

@@ -6,5 +6,5 @@ returns-in-Err c = signs_refused c.in_Err.ensures.found
 
 pub returns : goal.returns
 returns c =
-    let found = c.in-default.ensures.found in
+    let found = c.in_default.ensures.found in
     tabled c.args.text.now found.0 c.parse.result found.1 c.parse.ensures

@@ -35,8 +35,8 @@ returns-then-fuel-eq0 t c =
       falls = omega arith;
     }
 
-pub evaluate-all-numbers-requires : goal.evaluate-all-numbers-requires
-evaluate-all-numbers-requires t c =
+pub evaluate_all-numbers-requires : goal.evaluate_all-numbers-requires
+evaluate_all-numbers-requires t c =
     let k = call_kept c.args.sheet.now c.args.line c.args.node c.requires.within
     c.in-Call.is in
     record {
@@ -52,12 +52,12 @@ bounds-sheet-rule t c =
     c.in-Call.is in
     omega (arith, k.below, c.args.sheet.now.few_rules)
 
-pub slice-bounds-read-end : goal.slice-bounds-read-end
-slice-bounds-read-end t c =
+pub slice_bounds-read-end : goal.slice_bounds-read-end
+slice_bounds-read-end t c =
     let k = call_kept c.args.sheet.now c.args.line c.args.node c.requires.within
     c.in-Call.is in
-    let long = numbers_long k _ _ c.evaluate-all-numbers.result c.evaluate-all-numbers.ensures in
-    let h : c.in-Call.count ≤ length c.evaluate-all-numbers.result = omega (arith, long, k.few) in
+    let long = numbers_long k _ _ c.evaluate_all-numbers.result c.evaluate_all-numbers.ensures in
+    let h : c.in-Call.count ≤ length c.evaluate_all-numbers.result = omega (arith, long, k.few) in
     h
 
 pub read-requires : goal.read-requires
@@ -65,15 +65,15 @@ read-requires t c =
     let k = call_kept c.args.sheet.now c.args.line c.args.node c.requires.within
     c.in-Call.is in
     let line = c.args.sheet.now.lines_kept c.in-Call.rule (omega (arith, k.below)) in
-    let count = numbers_count k _ _ c.evaluate-all-numbers.result c.evaluate-all-numbers.ensures in
+    let count = numbers_count k _ _ c.evaluate_all-numbers.result c.evaluate_all-numbers.ensures in
     (search (rules, line), ((omega (arith, k.below), line.1, omega arith), (c.requires.fields, count)))
 
 pub returns-else-fuel-eq0 : goal.returns-else-fuel-eq0
 returns-else-fuel-eq0 t c =
     let h = c.read.ensures in
     record {
-      read = read_called c.args.line c.requires.within c.evaluate-all-numbers.result
-          c.in-Call.is c.if-fuel-eq0.false c.evaluate-all-numbers.ensures h.read;
+      read = read_called c.args.line c.requires.within c.evaluate_all-numbers.result
+          c.in-Call.is c.if-fuel-eq0.false c.evaluate_all-numbers.ensures h.read;
       falls = omega (arith, h.falls);
     }
 
@@ -84,9 +84,9 @@ read-requires-in-Not t c =
     let p = parts_as c.args.sheet.now c.args.line c.args.node c.requires.within c.in-Not.is in
     search (rules, p)
 
-pub returns-in-err-result : goal.returns-in-err-result
-returns-in-err-result t c =
-    let h = c.in-err-result.ensures in
+pub returns-in_err-result : goal.returns-in_err-result
+returns-in_err-result t c =
+    let h = c.in_err-result.ensures in
     record {
       read =
           read_not_out c.args.line c.requires.within c.in-Not.is c.from-residual.ensures
@@ -94,9 +94,9 @@ returns-in-err-result t c =
       falls = h.falls;
     }
 
-pub returns-in-ok-result : goal.returns-in-ok-result
-returns-in-ok-result t c =
-    let h = c.in-ok-result.ensures in
+pub returns-in_ok-result : goal.returns-in_ok-result
+returns-in_ok-result t c =
+    let h = c.in_ok-result.ensures in
     record {
       read = read_not c.args.line c.requires.within c.in-Not.is h.read;
       falls = h.falls;
@@ -126,12 +126,12 @@ read-requires-in-Join t c =
     in
     search (rules, p)
 
-pub returns-in-err-result-2 : goal.returns-in-err-result-2
-returns-in-err-result-2 t c =
-    let h = c.in-err-result-2.ensures in
+pub returns-in_err-result-2 : goal.returns-in_err-result-2
+returns-in_err-result-2 t c =
+    let h = c.in_err-result-2.ensures in
     record {
       read = read_left_out c.args.line c.requires.within c.in-Join.is
-          c.from-residual-in-err-result-2.ensures h.read;
+          c.from-residual-in_err-result-2.ensures h.read;
       falls = h.falls;
     }
 
@@ -139,12 +139,12 @@ pub read-requires-else-decides : goal.read-requires-else-decides
 read-requires-else-decides t c =
     let p = parts_as c.args.sheet.now c.args.line c.args.node c.requires.within c.in-Join.is
     in
-    let h : c.read-in-Join.new.fuel ≤ c.args.fuel.now = c.in-ok-result-2.ensures.falls in
+    let h : c.read-in-Join.new.fuel ≤ c.args.fuel.now = c.in_ok-result-2.ensures.falls in
     search (rules, p, h)
 
 pub returns-then-decides : goal.returns-then-decides
 returns-then-decides t c =
-    let h = c.in-ok-result-2.ensures in
+    let h = c.in_ok-result-2.ensures in
     record {
       read =
           read_left c.args.line c.requires.within c.in-Join.is c.if-decides.ensures h.read;
@@ -153,7 +153,7 @@ returns-then-decides t c =
 
 pub returns-else-decides : goal.returns-else-decides
 returns-else-decides t c =
-    let h = c.in-ok-result-2.ensures in
+    let h = c.in_ok-result-2.ensures in
     let g = c.read-else-decides.ensures in
     record {
       read =

@@ -17,7 +17,7 @@ returns-then-contains c =
     let s = c.args.self.now in
     tells_empty (width_of s) (register_left s) _ (left_of s)
     (sym (ap not (some_left s c.loop-i.i
-    (omega (arith, c.loop-i-test.true, c.row-count-i-end.ensures))
+    (omega (arith, c.loop-i-test.true, c.row_count-i-end.ensures))
     (ap (open_left s.allowed) (sym c.row.ensures.value) ∙ sym c.if-contains.ensures))))
 
 pub returns : goal.returns
@@ -25,4 +25,4 @@ returns c =
     let s = c.args.self.now in
     tells_empty (width_of s) (register_left s) _ (left_of s)
     (sym (ap not (none_left s
-    (λ i h. c.loop-i.invariant i (omega (arith, c.loop-i-test.false, c.row-count-i-end.ensures, h))))))
+    (λ i h. c.loop-i.invariant i (omega (arith, c.loop-i-test.false, c.row_count-i-end.ensures, h))))))

@@ -3,32 +3,32 @@ use Rattle.register.specs.Registers.{row_at}
 use Rattle.register.proofs.Registers.{row_fits, row_length}
 use Rattle.register.proofs.RegisterStore.row.Goals as goal
 
-pub overflow-mul-from : goal.overflow-mul-from
-overflow-mul-from c =
+pub overflow_mul-from : goal.overflow_mul-from
+overflow_mul-from c =
     let len = length c.args.self.now.register.now in
     let w = c.fields-width.result in
     let h = row_fits len w c.args.i
     (subst (λ z. c.args.i < len / z) (sym c.fields-width.ensures) c.requires) in
     search rules
 
-pub overflow-add-result : goal.overflow-add-result
-overflow-add-result c =
+pub overflow_add-result : goal.overflow_add-result
+overflow_add-result c =
     let len = length c.args.self.now.register.now in
     let w = c.fields-width.result in
     let h = row_fits len w c.args.i
     (subst (λ z. c.args.i < len / z) (sym c.fields-width.ensures) c.requires) in
     search rules
 
-pub offset-bounds-self-from : goal.offset-bounds-self-from
-offset-bounds-self-from c =
+pub offset_bounds-self-from : goal.offset_bounds-self-from
+offset_bounds-self-from c =
     let len = length c.args.self.now.register.now in
     let w = c.fields-width.result in
     let h = row_fits len w c.args.i
     (subst (λ z. c.args.i < len / z) (sym c.fields-width.ensures) c.requires) in
     search rules
 
-pub slice-bounds-result-end : goal.slice-bounds-result-end
-slice-bounds-result-end c =
+pub slice_bounds-result-end : goal.slice_bounds-result-end
+slice_bounds-result-end c =
     let len = length c.args.self.now.register.now in
     let w = c.fields-width.result in
     let h = row_fits len w c.args.i

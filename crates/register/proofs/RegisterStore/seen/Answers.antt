@@ -35,7 +35,7 @@ loop-i-preserved c =
       | then-contains w ↦
           subst P (sym w.seen-is)
           (seen_add s f i c.loop-i.seen w.add.new.self h
-          (omega (arith, c.loop-i-test.true, c.row-count-i-end.ensures))
+          (omega (arith, c.loop-i-test.true, c.row_count-i-end.ensures))
           (ap (open_left s.allowed) (sym is) ∙ sym w.if-contains.ensures) c.loop-i.invariant
           (λ v. w.add.ensures v
           ∙ ap (λ m. has c.loop-i.seen v || (ltb v 1024 && eqb (get_or m f 0) v)) is))
@@ -52,8 +52,8 @@ returns c =
     let h : f < width_of s = omega (arith, c.if-field-fields.false, c.fields.ensures) in
     let e = c.loop-i-test.false in
     let k = c.loop-i.auto.i-end in
-    let done : c.loop-i.i ≡ c.row-count-i-end.result = omega arith in (
+    let done : c.loop-i.i ≡ c.row_count-i-end.result = omega arith in (
       values_taken (width_of s) (register_left s) f (left_of s),
       sym (seen_values s f c.loop-i.seen h
-          (λ v. c.loop-i.invariant v ∙ ap (λ j. seen_in s f j v) (done ∙ c.row-count-i-end.ensures))),
+          (λ v. c.loop-i.invariant v ∙ ap (λ j. seen_in s f j v) (done ∙ c.row_count-i-end.ensures))),
     )

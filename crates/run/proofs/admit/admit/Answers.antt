@@ -12,8 +12,8 @@ returns-then-fields-sheet g c =
       (λ e. omega (arith, e)),
     )
 
-pub returns-then-not-long-enough : goal.returns-then-not-long-enough
-returns-then-not-long-enough g c =
+pub returns-then-not-long_enough : goal.returns-then-not-long_enough
+returns-then-not-long_enough g c =
     let sh = c.args.sheet.now in
     let w = g.S.Store.width c.args.store.now in
     let wide : w ≡ sh.field_count = omega (arith, c.fields.ensures, c.if-fields-sheet.false) in
@@ -21,7 +21,7 @@ returns-then-not-long-enough g c =
     (length c.args.goals.now) (length c.args.frames.now) in (
       list_short refl (wide ∙ sym (fields_are sh)) (subst
           (λ k. LongEnough c.args.fuel k c.args.given l → ⊥) (sym wide)
-          c.if-not-long-enough.ensures),
+          c.if-not-long_enough.ensures),
       (λ e. omega (arith, e)),
     )
 
@@ -34,5 +34,5 @@ returns g c =
     (length c.args.goals.now) (length c.args.frames.now) in (
       wide ∙ sym (fields_are sh),
       subst (λ k. LongEnough c.args.fuel k c.args.given l) (sym wide)
-          c.if-not-long-enough.ensures,
+          c.if-not-long_enough.ensures,
     )

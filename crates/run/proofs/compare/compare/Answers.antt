@@ -34,8 +34,8 @@ resolve-requires g c =
           w z c.requires.room;
     }
 
-pub returns-in-default : goal.returns-in-default
-returns-in-default g c =
+pub returns-in_default : goal.returns-in_default
+returns-in_default g c =
     let st = g.S.Store in
     let waits = g.R.Source.waiting in
     let guide = c.args.guide in
@@ -59,7 +59,7 @@ returns-in-default g c =
     record {
       same = c.resolve.ensures.same;
       left = one_halt e l i r b S C x w z S₁ y₁
-          c.in-default.ensures.left;
+          c.in_default.ensures.left;
     }
 
 pub resolve-requires-2 : goal.resolve-requires-2
@@ -93,8 +93,8 @@ resolve-requires-2 g c =
       room = two_fits e l i r b S C x w z a S₁ y₁ p c.requires.room;
     }
 
-pub returns-in-default-resolve : goal.returns-in-default-resolve
-returns-in-default-resolve g c =
+pub returns-in_default-resolve : goal.returns-in_default-resolve
+returns-in_default-resolve g c =
     let st = g.S.Store in
     let waits = g.R.Source.waiting in
     let guide = c.args.guide in
@@ -125,11 +125,11 @@ returns-in-default-resolve g c =
     record {
       same = (w₂, c.resolve-2.ensures.same.1 ∙ c.resolve.ensures.same.1, λ m h. c.resolve.ensures.same.2 m (c.resolve-2.ensures.same.2 m h));
       left = two_halt e l i r b S C x w z a S₁ y₁ p S₂ y₂
-          (subst (λ k. Resolved k e S₁ r y₁ None S₂ y₂) w₁ c.in-default-resolve.ensures.left);
+          (subst (λ k. Resolved k e S₁ r y₁ None S₂ y₂) w₁ c.in_default-resolve.ensures.left);
     }
 
-pub leave-one-requires : goal.leave-one-requires
-leave-one-requires g c =
+pub leave_one-requires : goal.leave_one-requires
+leave_one-requires g c =
     let st = g.S.Store in
     let waits = g.R.Source.waiting in
     let guide = c.args.guide in
@@ -166,8 +166,8 @@ leave-one-requires g c =
       room = three_fits e l i r b S C x w z a S₁ y₁ p d S₂ y₂ q c.requires.room;
     }
 
-pub returns-then-not-leave-one : goal.returns-then-not-leave-one
-returns-then-not-leave-one g c =
+pub returns-then-not-leave_one : goal.returns-then-not-leave_one
+returns-then-not-leave_one g c =
     let st = g.S.Store in
     let waits = g.R.Source.waiting in
     let guide = c.args.guide in
@@ -197,25 +197,25 @@ returns-then-not-leave-one g c =
     let w₂ = c.resolve-2.ensures.same.0 ∙ w₁ in
     let d = c.in-Some-resolve.y in
     let q = subst (λ k. Resolved k e S₁ r y₁ (Some d) S₂ y₂) w₁ c.in-Some-resolve.ensures.left in
-    let s₃ = c.leave-one.new.store in
+    let s₃ = c.leave_one.new.store in
     let S₃ = st.current s₃ in
-    let y₃ = way guide c.leave-one.new.picks c.leave-one.new.widths c.leave-one.new.at
-    (waits c.leave-one.new.source) in
-    let w₃ = c.leave-one.ensures.same.0 ∙ w₂ in
+    let y₃ = way guide c.leave_one.new.picks c.leave_one.new.widths c.leave_one.new.at
+    (waits c.leave_one.new.source) in
+    let w₃ = c.leave_one.ensures.same.0 ∙ w₂ in
     record {
       same = (
         w₃,
-        c.leave-one.ensures.same.1 ∙ c.resolve-2.ensures.same.1 ∙ c.resolve.ensures.same.1,
+        c.leave_one.ensures.same.1 ∙ c.resolve-2.ensures.same.1 ∙ c.resolve.ensures.same.1,
         λ m h. c.resolve.ensures.same.2 m
-            (c.resolve-2.ensures.same.2 m (c.leave-one.ensures.same.2 m h)),
+            (c.resolve-2.ensures.same.2 m (c.leave_one.ensures.same.2 m h)),
       );
       left = three_halt e l i r b S C x w z a S₁ y₁ p d S₂ y₂ q S₃ y₃
           (subst (λ k. LeftOne k S₂ (argument_of a) (argument_of d) y₂ false S₃ y₃) w₂
-          c.if-not-leave-one.ensures.left);
+          c.if-not-leave_one.ensures.left);
     }
 
-pub keep-by-requires : goal.keep-by-requires
-keep-by-requires g c =
+pub keep_by-requires : goal.keep_by-requires
+keep_by-requires g c =
     let st = g.S.Store in
     let waits = g.R.Source.waiting in
     let guide = c.args.guide in
@@ -245,17 +245,17 @@ keep-by-requires g c =
     let w₂ = c.resolve-2.ensures.same.0 ∙ w₁ in
     let d = c.in-Some-resolve.y in
     let q = subst (λ k. Resolved k e S₁ r y₁ (Some d) S₂ y₂) w₁ c.in-Some-resolve.ensures.left in
-    let s₃ = c.leave-one.new.store in
+    let s₃ = c.leave_one.new.store in
     let S₃ = st.current s₃ in
-    let y₃ = way guide c.leave-one.new.picks c.leave-one.new.widths c.leave-one.new.at
-    (waits c.leave-one.new.source) in
-    let w₃ = c.leave-one.ensures.same.0 ∙ w₂ in
-    let o = c.if-not-leave-one.ensures.left in
+    let y₃ = way guide c.leave_one.new.picks c.leave_one.new.widths c.leave_one.new.at
+    (waits c.leave_one.new.source) in
+    let w₃ = c.leave_one.ensures.same.0 ∙ w₂ in
+    let o = c.if-not-leave_one.ensures.left in
     record {
       left = subst (λ k. Okay k a) (sym w₃) p.okay;
       right = subst (λ k. Okay k d) (sym w₃)
           q.okay;
-      some = subst (λ k. some k S₃ ≡ true) (sym c.leave-one.ensures.same.0) o.alive;
+      some = subst (λ k. some k S₃ ≡ true) (sym c.leave_one.ensures.same.0) o.alive;
       apart = o.apart;
     }
 
@@ -290,26 +290,26 @@ returns g c =
     let w₂ = c.resolve-2.ensures.same.0 ∙ w₁ in
     let d = c.in-Some-resolve.y in
     let q = subst (λ k. Resolved k e S₁ r y₁ (Some d) S₂ y₂) w₁ c.in-Some-resolve.ensures.left in
-    let s₃ = c.leave-one.new.store in
+    let s₃ = c.leave_one.new.store in
     let S₃ = st.current s₃ in
-    let y₃ = way guide c.leave-one.new.picks c.leave-one.new.widths c.leave-one.new.at
-    (waits c.leave-one.new.source) in
-    let w₃ = c.leave-one.ensures.same.0 ∙ w₂ in
+    let y₃ = way guide c.leave_one.new.picks c.leave_one.new.widths c.leave_one.new.at
+    (waits c.leave_one.new.source) in
+    let w₃ = c.leave_one.ensures.same.0 ∙ w₂ in
     let o = subst (λ k. LeftOne k S₂ (argument_of a) (argument_of d) y₂ true S₃ y₃) w₂
-    c.if-not-leave-one.ensures.left in
-    let P = st.current c.keep-by.new.store in
-    let k = c.keep-by.result in
+    c.if-not-leave_one.ensures.left in
+    let P = st.current c.keep_by.new.store in
+    let k = c.keep_by.result in
     record {
       same = (
-        c.keep-by.ensures.same.0 ∙ w₃,
-        c.keep-by.ensures.same.1 ∙ c.leave-one.ensures.same.1
+        c.keep_by.ensures.same.0 ∙ w₃,
+        c.keep_by.ensures.same.1 ∙ c.leave_one.ensures.same.1
             ∙ c.resolve-2.ensures.same.1 ∙ c.resolve.ensures.same.1,
         λ m h. c.resolve.ensures.same.2
-            m (c.resolve-2.ensures.same.2 m (c.leave-one.ensures.same.2 m
-            (c.keep-by.ensures.same.2 m h))),
+            m (c.resolve-2.ensures.same.2 m (c.leave_one.ensures.same.2 m
+            (c.keep_by.ensures.same.2 m h))),
       );
       left = compared e l i r b S C x w z a S₁ y₁ p d S₂ y₂ q S₃ P y₃ k o
           (subst (λ u. Kept w S₃ u (argument_of a) (argument_of d) k P) c.aim.ensures
           (subst (λ u. Kept u S₃ c.aim.result (argument_of a) (argument_of d) k P) w₃
-          c.keep-by.ensures.left));
+          c.keep_by.ensures.left));
     }

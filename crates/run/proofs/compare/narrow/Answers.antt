@@ -19,7 +19,7 @@ returns g c =
       same = (same.0, same.1, kept_inside S P f c.args.sign c.args.number is);
       left = record {
         is = is;
-        tells = ap not c.is-empty.ensures.1 ∙ not-not _ ∙ ap (λ q. some q P)
+        tells = ap not c.is_empty.ensures.1 ∙ not-not _ ∙ ap (λ q. some q P)
             same.0;
       };
     }

@@ -62,5 +62,5 @@ returns g c =
           (map range_of (take k sh.ranges))) all
           ∙ ap (λ B. inside B (map range_of (take sh.field_count sh.ranges))) e.1
           ∙ ap (inside (st.starting c.args.store.now)) (sym (ranges_are sh));
-      tells = ap not c.is-empty.ensures.1 ∙ not-not _;
+      tells = ap not c.is_empty.ensures.1 ∙ not-not _;
     }

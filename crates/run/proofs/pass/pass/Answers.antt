@@ -110,8 +110,8 @@ returns-in-None g c =
       left = pass_halt e w z S (terms ts n) Sᵢ y m x us led C alive y' c.in-None.ensures.left;
     }
 
-pub overflow-add-made : goal.overflow-add-made
-overflow-add-made g c = omega (arith, c.loop-i.invariant.3, c.loop-i-test.true, c.requires.okay.0)
+pub overflow_add-made : goal.overflow_add-made
+overflow_add-made g c = omega (arith, c.loop-i.invariant.3, c.loop-i-test.true, c.requires.okay.0)
 
 pub loop-i-preserved : goal.loop-i-preserved
 loop-i-preserved g c =

@@ -45,8 +45,8 @@ returns-then-c-eq1 g c =
           (sym c.count-c.ensures.1 ∙ c.if-c-eq1.true) c.value.ensures.1);
     }
 
-pub overflow-cast-c : goal.overflow-cast-c
-overflow-cast-c g c =
+pub overflow_cast-c : goal.overflow_cast-c
+overflow_cast-c g c =
     let st = g.S.Store in
     let s = c.args.store.now in
     omega (arith, c.count-c.ensures.1, few_values (st.width s) (st.current s) c.in-Field.f)
@@ -74,8 +74,8 @@ choose-requires g c =
           (subst (λ q. Fits z (Settling (st.current s) (argument_of q))) c.in-Field.is c.requires.room);
     }
 
-pub keep-value-requires : goal.keep-value-requires
-keep-value-requires g c =
+pub keep_value-requires : goal.keep_value-requires
+keep_value-requires g c =
     let st = g.S.Store in
     let s = c.args.store.now in
     let ok = subst (Okay (st.width s)) c.in-Field.is c.requires.okay in
@@ -99,15 +99,15 @@ returns-in-Some g c =
     (waits c.choose.new.source) in
     let wide : length (values (st.width s) (st.current s) f) ≢ 1 = omega
     (arith, c.count-c.ensures.1, c.if-c-eq1.false) in
-    let r = c.keep-value.result in
-    let P = st.current c.keep-value.new.store in
+    let r = c.keep_value.result in
+    let P = st.current c.keep_value.new.store in
     record {
-      same = c.keep-value.ensures.same;
+      same = c.keep_value.ensures.same;
       left = subst (λ q. Settled (st.width s) (st.current s) q z r P y) (sym c.in-Field.is)
           (chosen_done (st.width s) (st.current s) f (st.sound.left s) ok z c.requires.some y wide
           c.in-Some.k r P
           (subst (λ q. Chosen (among q) z (Some c.in-Some.k) y) c.count-c.ensures.1
-          c.in-Some.ensures) c.keep-value.ensures.left);
+          c.in-Some.ensures) c.keep_value.ensures.left);
     }
 
 pub returns-in-None : goal.returns-in-None

@@ -549,8 +549,8 @@ ask-requires g c =
           (subst (λ q. Fits z (Solving rules q u S)) is c.requires.room);
     }
 
-pub returns-in-default : goal.returns-in-default
-returns-in-default g c =
+pub returns-in_default : goal.returns-in_default
+returns-in_default g c =
     let st = g.S.Store in
     let waits = g.R.Source.waiting in
     let guide = c.args.guide in
@@ -580,7 +580,7 @@ returns-in-default g c =
     let ok = node_okay sh w wide gs fs n f u fit more node c.in-Join.is in
     let y = way guide c.ask.new.picks c.ask.new.widths c.ask.new.at
     (waits c.ask.new.source) in
-    let h = c.in-default.ensures in
+    let h = c.in_default.ensures in
     record {
       same = (refl, refl, λ m h. h);
       left = subst (λ q. Halt z (Solving rules q u S) y) (sym is)

@@ -8,7 +8,7 @@ use Rattle.signs.proofs.counts.survey.Goals as goal
 pub returns-then-text-gt32768 : goal.returns-then-text-gt32768
 returns-then-text-gt32768 c =
     let text = c.args.text.now in
-    record { found = too_long c.if-text-gt32768.true; one_verdict_lem = one_verdict_lem text; put_together = put_together text }
+    record { found = too_long c.if-text-gt32768.true; one_verdict = one_verdict_lem text; put_together = put_together text }
 
 pub tokens-init : goal.tokens-init
 tokens-init c = (omega arith, omega arith, none_counted c.args.text.now _ refl refl refl, λ n q r. r)
@@ -30,7 +30,7 @@ returns-in-End c =
     let all = all_counted _ _ _ c.in-End.ensures c.tokens.invariant.2 in
     record {
       found = (all.0, record { short = c.if-text-gt32768.false; cut = all.1 }, all.2);
-      one_verdict_lem = one_verdict_lem text;
+      one_verdict = one_verdict_lem text;
       put_together = put_together text;
     }
 
@@ -39,6 +39,6 @@ returns-in-Fault c =
     let text = c.args.text.now in
     record {
       found = not_cut c.if-text-gt32768.false (c.tokens.invariant.3 _ _ c.in-Fault.ensures.refused);
-      one_verdict_lem = one_verdict_lem text;
+      one_verdict = one_verdict_lem text;
       put_together = put_together text;
     }

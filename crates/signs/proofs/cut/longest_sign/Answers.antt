@@ -3,7 +3,7 @@ use Rattle.signs.specs.Scanning.{LongestSign}
 use Rattle.signs.proofs.Scans.{two_here, last_here}
 use Rattle.signs.proofs.Spelling.{NoDouble, two_first, one_first, one_byte_left, no_double}
 use Rattle.signs.proofs.cut.longest_sign.Goals as goal
-use Rattle.signs.proofs.cut.longest_sign.Goals.{then-text-place-gt1+in-default, else-text-place-gt1}
+use Rattle.signs.proofs.cut.longest_sign.Goals.{then-text-place-gt1+in_default, else-text-place-gt1}
 
 pub returns-in-Some : goal.returns-in-Some
 returns-in-Some c =
@@ -17,10 +17,10 @@ returns c =
     let p = c.args.place in
     let only = c.single.ensures in
     elim c.if-text-place-gt1.branch [
-      | then-text-place-gt1+in-default w ↦
+      | then-text-place-gt1+in_default w ↦
           let e = two_here text p (omega arith) in
           subst (λ l. LongestSign l c.single.result) (sym e)
-          (one_first _ _ c.single.result (no_double _ _ _ w.in-default.ensures) only)
+          (one_first _ _ c.single.result (no_double _ _ _ w.in_default.ensures) only)
       | else-text-place-gt1 w ↦
           let e = last_here text p c.requires (omega arith) in
           subst (λ l. LongestSign l c.single.result) (sym e)

@@ -6,8 +6,8 @@ returns-then-from-text c = past_end c.args.text.now c.args.from c.if-from-text.t
 
 pub returns-then-place-text : goal.returns-then-place-text
 returns-then-place-text c =
-    no_token c.args.text.now c.args.from c.run-end-place.result (reached c.run-end-place.ensures) c.if-place-text.true
+    no_token c.args.text.now c.args.from c.run_end-place.result (reached c.run_end-place.ensures) c.if-place-text.true
 
 pub returns : goal.returns
 returns c =
-    follows c.args.text.now c.args.from c.run-end-place.result c.stands.result (reached c.run-end-place.ensures) c.stands.ensures
+    follows c.args.text.now c.args.from c.run_end-place.result c.stands.result (reached c.run_end-place.ensures) c.stands.ensures

@@ -6,13 +6,13 @@ use Rattle.signs.proofs.cut.word.Goals as goal
 
 pub returns-then-end-place-gt16 : goal.returns-then-end-place-gt16
 returns-then-end-place-gt16 c =
-    let run = c.run-end-end.ensures in
-    let n = length_part c.args.text.now c.args.place c.run-end-end.result run.from run.within in
+    let run = c.run_end-end.ensures in
+    let n = length_part c.args.text.now c.args.place c.run_end-end.result run.from run.within in
     (refl, over_limit (word_here run c.requires.inside c.requires.begins) (λ h. omega arith))
 
 pub returns : goal.returns
 returns c =
-    let run = c.run-end-end.ensures in
-    let n = length_part c.args.text.now c.args.place c.run-end-end.result run.from run.within in
+    let run = c.run_end-end.ensures in
+    let n = length_part c.args.text.now c.args.place c.run_end-end.result run.from run.within in
     let takes = word_here run c.requires.inside c.requires.begins in
     (refl, run.within, omega (arith, spelling_some takes.spells), takes, omega arith)

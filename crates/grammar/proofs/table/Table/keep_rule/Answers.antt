@@ -6,16 +6,16 @@ use Rattle.grammar.proofs.Keeping.{not_passing, rule_skipped, rule_passes, rule_
 use Rattle.grammar.proofs.table.Table.keep_rule.Goals as goal
 use Rattle.grammar.proofs.table.Table.keep_rule.Goals.{then-self-ge16-via-then-self-ge16, then-self-ge16-via-else-self-ge16+then-passes}
 
-pub returns-then-is-some : goal.returns-then-is-some
-returns-then-is-some c = record {
+pub returns-then-is_some : goal.returns-then-is_some
+returns-then-is_some c = record {
   entries = refl;
   lines = λ text fs rs all f h le few body. rule_skipped text c.args.self.now fs rs c.args.start le _
-      (sym c.if-is-some.ensures) h;
+      (sym c.if-is_some.ensures) h;
 }
 
 pub returns-then-self-ge16 : goal.returns-then-self-ge16
 returns-then-self-ge16 c =
-    let none = sym c.if-is-some.ensures in
+    let none = sym c.if-is_some.ensures in
     record {
       entries = refl;
       lines = λ text fs rs all f h le few body.
@@ -30,7 +30,7 @@ returns-then-self-ge16 c =
 
 pub returns : goal.returns
 returns c =
-    let none = sym c.if-is-some.ensures in
+    let none = sym c.if-is_some.ensures in
     let room : length c.args.self.now.rules ≡ 16 = search rules in
     let within = not_passing c.args.start c.args.head.params.count c.args.part
     (λ v. not_true (c.if-passes.ensures.1 v)) in

@@ -23,36 +23,20 @@ one_entry W P line entry p zero zero w = p
 one_entry W P line entry p zero (suc i) w = let h = entry (suc i) w in absurd (omega arith)
 one_entry W P line entry p (suc l) i w = let h = line (suc l) i w in absurd (omega arith)
 
-pub invariant-of-result : goal.invariant-of-result
+pub invariant_of-result : goal.invariant_of-result
 unfolding formula_at formula_within
-invariant-of-result c = (
-  (refl, refl, refl),
-  (
-    (lit≤ tt, lit≤ tt),
-    (
-      lit≤ tt,
-      (
-        below_one _ (lit≤ tt, lit≤ tt),
-        (
-          at_zero _ (lit≤ tt, lit≤ tt, lit< tt),
-          (
-            refl,
-            (
-              one_entry _ _ (λ l i w. w.0) (λ i w. w.2) (grind (arith, nat_tests, c.requires)),
-              (
-                at_zero _ (lit≤ tt),
-                (
-                  at_zero _ (lit≤ tt),
-                  (lit≤ tt, tt),
-                ),
-              ),
-            ),
-          ),
-        ),
-      ),
-    ),
-  ),
-)
+invariant_of-result c = record {
+  long = (refl, refl, refl);
+  some_fields = (lit≤ tt, lit≤ tt);
+  few_rules = lit≤ tt;
+  ranges_kept = below_one _ (lit≤ tt, lit≤ tt);
+  lines_kept = at_zero _ (lit≤ tt, lit≤ tt, lit< tt);
+  mark_plain = refl;
+  entries_kept = one_entry _ _ (λ l i w. w.0) (λ i w. w.2) (grind (arith, nat_tests, c.requires));
+  few_joins = at_zero _ (lit≤ tt);
+  shallow = at_zero _ (lit≤ tt);
+  few_formulas = lit≤ tt;
+}
 
 pub returns : goal.returns
 unfolding tree_of formula_at formula_within

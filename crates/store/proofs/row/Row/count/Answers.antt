@@ -8,8 +8,8 @@ use Rattle.store.proofs.row.Row.count.Goals.{then-self-v, else-self-v}
 pub loop-v-init : goal.loop-v-init
 loop-v-init c = sym (length_zero (has c.args.self.now))
 
-pub overflow-add-found : goal.overflow-add-found
-overflow-add-found c = omega (arith, length_le (has c.args.self.now) c.loop-v.v, c.loop-v.invariant)
+pub overflow_add-found : goal.overflow_add-found
+overflow_add-found c = omega (arith, length_le (has c.args.self.now) c.loop-v.v, c.loop-v.invariant)
 
 pub loop-v-preserved : goal.loop-v-preserved
 loop-v-preserved c =

@@ -9,8 +9,8 @@ use Rattle.store.proofs.row.Row.value.Goals.{then-self-v+else-passed-k, else-sel
 pub loop-v-init : goal.loop-v-init
 loop-v-init c = (sym (length_zero (has c.args.self.now)), omega arith)
 
-pub overflow-add-passed : goal.overflow-add-passed
-overflow-add-passed c = omega (arith, length_le (has c.args.self.now) c.loop-v.v, c.loop-v.invariant.0)
+pub overflow_add-passed : goal.overflow_add-passed
+overflow_add-passed c = omega (arith, length_le (has c.args.self.now) c.loop-v.v, c.loop-v.invariant.0)
 
 pub loop-v-preserved : goal.loop-v-preserved
 loop-v-preserved c =
