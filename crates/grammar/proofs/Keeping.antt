@@ -8,7 +8,7 @@ use Rattle.grammar.specs.declared.table.FieldLine.{FieldLine}
 use Rattle.grammar.specs.declared.table.RuleLine.{RuleLine}
 use Rattle.grammar.specs.declared.table.MarkLine.{MarkLine}
 use Rattle.grammar.specs.declared.table.Table.{Table}
-use Rattle.grammar.specs.declared.formula.Part.{Part}
+use Rattle.grammar.specs.declared.formula_part.Part.{Part}
 use Rattle.grammar.specs.declared.line.Head.{Head}
 use Rattle.grammar.specs.Syntax.{Word, Number, Formula, Field, field_line, Rule, rule_line, Mark, mark_line, Sheet, sheet}
 use Rattle.grammar.specs.Tables.{word_of, number_of, node_at, Entries, size, joins, Over, many_params, many_joins, many_formulas, field_of, fields_of, params_of, rules_of, Rules, no_rules, a_rule, LinesAbove, Holds, over_field, over_rule, over_mark}

@@ -18,7 +18,7 @@ use Rattle.grammar.specs.declared.token.Fixed.{Fixed}
 use Rattle.grammar.specs.declared.token.Fixed.TheVariants as fixed
 use Rattle.grammar.specs.declared.table.FieldLine.{FieldLine}
 use Rattle.grammar.specs.declared.table.Table.{Table}
-use Rattle.grammar.specs.declared.formula.Part.{Part}
+use Rattle.grammar.specs.declared.formula_part.Part.{Part}
 use Rattle.grammar.specs.declared.list.Few.{Few}
 use Rattle.grammar.specs.declared.line.Head.{Head}
 use Rattle.grammar.specs.Syntax.{Word, word, Number, num, Formula, Field, field_line, Rule, rule_line, Mark, mark_line, Sheet, sheet}

@@ -22,7 +22,7 @@ use Rattle.grammar.specs.declared.table.Weights.TheVariants as weights
 use Rattle.grammar.specs.declared.table.Node.{Node}
 use Rattle.grammar.specs.declared.table.Node.TheVariants as node
 use Rattle.grammar.specs.declared.table.Table.{Table}
-use Rattle.grammar.specs.declared.formula.Part.{Part}
+use Rattle.grammar.specs.declared.formula_part.Part.{Part}
 use Rattle.grammar.specs.declared.list.Few.{Few}
 use Rattle.grammar.specs.Syntax.{Word, word, Number, num, Term, constant, Weights, absent, given, Formula, compared, called, negated, picked, joined}
 use Rattle.grammar.specs.Grammar as gram

@@ -18,10 +18,10 @@ use Rattle.grammar.specs.declared.table.Weights.{Weights as WeightsEntry}
 use Rattle.grammar.specs.declared.table.Node.{Node}
 use Rattle.grammar.specs.declared.table.Table.{Table}
 use Rattle.grammar.specs.declared.table.FieldLine.{FieldLine}
-use Rattle.grammar.specs.declared.formula.Part.{Part}
+use Rattle.grammar.specs.declared.formula_part.Part.{Part}
 use Rattle.grammar.specs.declared.line.Head.{Head}
-use Rattle.grammar.specs.declared.formula.Level.{Level as LevelEntry}
-use Rattle.grammar.specs.declared.formula.Level.TheVariants as level
+use Rattle.grammar.specs.declared.formula_part.Level.{Level as LevelEntry}
+use Rattle.grammar.specs.declared.formula_part.Level.TheVariants as level
 use Rattle.grammar.specs.declared.list.Few.{Few}
 use Rattle.grammar.specs.declared.token.Read.{Read}
 use Rattle.grammar.specs.declared.token.Fixed.{Fixed}

@@ -2,7 +2,7 @@
 ghost use Rattle.std.specs.Prelude.{◌≡◌, ◌<◌, ◌≤◌, Decides};
 ghost use Rattle.grammar.specs.Parsing.{Passing, Pushed, FieldKept, RuleKept, MarkKept};
 
-use crate::formula::Part;
+use crate::formula_part::Part;
 use crate::line::Head;
 use crate::table::{FieldLine, MarkLine, Node, RuleLine, Table};
 

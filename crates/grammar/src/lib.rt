@@ -2,7 +2,7 @@
 #![tactic(auto)]
 
 mod fill;
-mod formula;
+mod formula_part;
 mod line;
 mod list;
 mod sheet;

@@ -2,7 +2,7 @@
 ghost use Rattle.std.specs.Prelude.{◌≡◌, ◌≤◌, length};
 ghost use Rattle.grammar.specs.Parsing.{NamesRead, HeadRead, Grown, Measured, BodyRead, FieldRead, RuleRead, MarkRead};
 
-use crate::formula::{Level, Part, read_formula};
+use crate::formula_part::{Level, Part, read_formula};
 use crate::list::Few;
 use crate::table::{FieldLine, Table, Word};
 use crate::token::{Class, Fixed, Read, expect, peek, read_name, read_number};

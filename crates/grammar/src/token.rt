@@ -93,19 +93,19 @@ impl Fixed {
 fn word_class(word: &[u8], place: usize) -> Class
     ensures { result ≡ class_of_word word.now place }
 {
-    if word == b"field" {
+    if word == b"field".as_slice() {
         Class::Field
-    } else if word == b"rule" {
+    } else if word == b"rule".as_slice() {
         Class::Rule
-    } else if word == b"mark" {
+    } else if word == b"mark".as_slice() {
         Class::Mark
-    } else if word == b"and" {
+    } else if word == b"and".as_slice() {
         Class::Join(Join::And)
-    } else if word == b"or" {
+    } else if word == b"or".as_slice() {
         Class::Join(Join::Or)
-    } else if word == b"not" {
+    } else if word == b"not".as_slice() {
         Class::Not
-    } else if word == b"pick" {
+    } else if word == b"pick".as_slice() {
         Class::Pick
     } else {
         Class::Name(Word {

@@ -5,7 +5,7 @@ use Rattle.grammar.proofs.line.read_body.Goals as goal
 
 pub returns-in_err-formula : goal.returns-in_err-formula
 returns-in_err-formula c =
-    let q = err_from_is_err_and c.from-residual.result c.from-residual.ensures.1 in
+    let q = err_from_is_err_and c.from_residual.result c.from_residual.ensures.1 in
     rw (q.1, q.2) (record {
       grown = c.read_formula.ensures.grown;
       measured = tt;
@@ -15,7 +15,7 @@ returns-in_err-formula c =
 
 pub returns-in_err-end : goal.returns-in_err-end
 returns-in_err-end c =
-    let q = err_from_is_err_and c.from-residual-in_err-end.result c.from-residual-in_err-end.ensures.1
+    let q = err_from_is_err_and c.from_residual-in_err-end.result c.from_residual-in_err-end.ensures.1
     in
     rw (q.1, q.2) (record {
       grown = c.read_formula.ensures.grown;

@@ -5,7 +5,7 @@ use Rattle.grammar.proofs.line.read_field.Goals as goal
 
 pub returns-in_err-end : goal.returns-in_err-end
 returns-in_err-end c =
-    let q = err_from_is_err_and c.from-residual-in_err-end.result c.from-residual-in_err-end.ensures.1
+    let q = err_from_is_err_and c.from_residual-in_err-end.result c.from_residual-in_err-end.ensures.1
     in
     rw (q.1, q.2) (record {
       entries = refl;

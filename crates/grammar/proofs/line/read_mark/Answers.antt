@@ -8,7 +8,7 @@ returns-in_default c = no_mark c.args.text.now _ c.args.table.now c.peek-ahead.r
 
 pub returns-in_err-body : goal.returns-in_err-body
 returns-in_err-body c =
-    let q = err_from_is_err_and c.from-residual.result c.from-residual.ensures.1 in
+    let q = err_from_is_err_and c.from_residual.result c.from_residual.ensures.1 in
     rw (q.1, q.2) (mark_body_stops c.args.text.now _ c.args.table.now c.peek-ahead.result
     c.peek-ahead.ensures c.in-Mark.is _ c.in_err-body.ensures.value)
 

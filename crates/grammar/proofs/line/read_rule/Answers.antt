@@ -5,13 +5,13 @@ use Rattle.grammar.proofs.line.read_rule.Goals as goal
 
 pub returns-in_err-head : goal.returns-in_err-head
 returns-in_err-head c =
-    let q = err_from_is_err_and c.from-residual.result c.from-residual.ensures.1 in
+    let q = err_from_is_err_and c.from_residual.result c.from_residual.ensures.1 in
     rw (q.1, q.2) (record { room = c.requires; value = c.in_err-head.ensures })
 
 pub returns-in_err-body : goal.returns-in_err-body
 returns-in_err-body c =
-    let q = err_from_is_err_and c.from-residual-in_err-body.result
-    c.from-residual-in_err-body.ensures.1 in
+    let q = err_from_is_err_and c.from_residual-in_err-body.result
+    c.from_residual-in_err-body.ensures.1 in
     rw (q.1, q.2) (record {
       room = c.read_body.ensures.grown.room c.requires;
       value = body_stops c.args.text.now _ c.args.first c.args.table.now

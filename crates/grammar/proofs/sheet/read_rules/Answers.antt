@@ -28,7 +28,7 @@ returns-in_default c = record {
 
 pub returns-in_err-from : goal.returns-in_err-from
 returns-in_err-from c =
-    let q = err_from_is_err_and c.from-residual.result c.from-residual.ensures.1 in
+    let q = err_from_is_err_and c.from_residual.result c.from_residual.ensures.1 in
     let o = c.in_err-from.ensures in
     rw (q.1, q.2) (record {
       room = o.room;

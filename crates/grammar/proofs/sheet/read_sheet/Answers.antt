@@ -4,21 +4,21 @@ use Rattle.grammar.proofs.sheet.read_sheet.Goals as goal
 
 pub returns-in_err-first : goal.returns-in_err-first
 returns-in_err-first c =
-    let q = err_from_is_err_and c.from-residual.result c.from-residual.ensures.1 in
+    let q = err_from_is_err_and c.from_residual.result c.from_residual.ensures.1 in
     rw (q.1, q.2) (parse_first c.args.text.now c.args.table.now _
     c.in_err-first.ensures.value)
 
 pub returns-in_err-fields : goal.returns-in_err-fields
 returns-in_err-fields c =
-    let q = err_from_is_err_and c.from-residual-in_err-fields.result
-    c.from-residual-in_err-fields.ensures.1 in
+    let q = err_from_is_err_and c.from_residual-in_err-fields.result
+    c.from_residual-in_err-fields.ensures.1 in
     rw (q.1, q.2) (parse_fields c.args.text.now c.args.table.now _ _
     c.in_ok-first.ensures.value _ c.in_err-fields.ensures.value)
 
 pub returns-in_err-rules : goal.returns-in_err-rules
 returns-in_err-rules c =
-    let q = err_from_is_err_and c.from-residual-in_err-rules.result
-    c.from-residual-in_err-rules.ensures.1 in
+    let q = err_from_is_err_and c.from_residual-in_err-rules.result
+    c.from_residual-in_err-rules.ensures.1 in
     rw (q.1, q.2) (parse_rules c.args.text.now c.args.table.now _ _
     c.in_ok-first.ensures.value _ _ c.in_ok-fields.ensures.value _
     c.in_err-rules.ensures.value)

@@ -9,14 +9,14 @@ returns-in_default c =
 
 pub returns-in_err-number : goal.returns-in_err-number
 returns-in_err-number c =
-    let q = err_from_is_err_and c.from-residual.result c.from-residual.ensures.1 in
+    let q = err_from_is_err_and c.from_residual.result c.from_residual.ensures.1 in
     rw (q.1, q.2) (plus_stops _ _ c.peek-ahead.result c.peek-ahead.ensures c.args.word _
     c.in-Plus.is c.in_err-number.ensures)
 
 pub returns-in_err-number-2 : goal.returns-in_err-number-2
 returns-in_err-number-2 c =
-    let q = err_from_is_err_and c.from-residual-in_err-number-2.result
-    c.from-residual-in_err-number-2.ensures.1 in
+    let q = err_from_is_err_and c.from_residual-in_err-number-2.result
+    c.from_residual-in_err-number-2.ensures.1 in
     rw (q.1, q.2) (minus_stops _ _ c.peek-ahead.result c.peek-ahead.ensures c.args.word _
     c.in-Minus.is c.in_err-number-2.ensures)
 

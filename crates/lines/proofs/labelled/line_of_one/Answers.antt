@@ -8,5 +8,5 @@ returns-then-out-width c =
 
 pub returns : goal.returns
 returns c =
-    made_by_put (put_put c.put_at.ensures c.byte.ensures)
+    made_by_put (put_put c.put-at.ensures c.byte.ensures)
     (omega (arith, c.width.ensures.len, length_one_line c.args.only))

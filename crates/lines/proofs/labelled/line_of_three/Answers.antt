@@ -11,5 +11,5 @@ pub returns : goal.returns
 returns c =
     let whole = length_line_of c.args.first c.args.second c.args.third in
     let last = put_put c.put-at-3.ensures c.byte.ensures in
-    made_by_put (put_put c.put_at.ensures (put_put c.put-at-2.ensures last))
+    made_by_put (put_put c.put-at.ensures (put_put c.put-at-2.ensures last))
     (omega (arith, c.width.ensures.len, c.width-2.ensures.len, c.width-3.ensures.len))

@@ -27,7 +27,7 @@ loop-number-preserved c =
     let is : text ≡ labelled (codes "/") (get_or ns i 0) =
     λ j. labelled (c.new.ensures.label j) (c.new.ensures.number j) in (
       inv.0 ++ text,
-      put_put inv.1 c.put_at.ensures,
+      put_put inv.1 c.put-at.ensures,
       append_assoc inv.0 text (further (drop (i + 1) ns))
           ∙ ap (λ l. inv.0 ++ (l ++ further (drop (i + 1) ns))) is
           ∙ ap (λ l. inv.0 ++ l) (sym (further_more ns i (omega arith)))

@@ -5,7 +5,7 @@ use Rattle.names.proofs.entries.number_called.Goals as goal
 
 pub returns-in_err-rule : goal.returns-in_err-rule
 returns-in_err-rule c =
-    let p = err_from_is_err_and c.from-residual.result c.from-residual.ensures.1 in
+    let p = err_from_is_err_and c.from_residual.result c.from_residual.ensures.1 in
     rw (p.1, p.2)
     (call_refused c.args.text.now c.args.table.now c.args.params.now c.args.count c.args.below c.args.name c.args.n c.args.terms.now
     c.in_err-rule.field-0.0 c.in_err-rule.ensures.settled)
@@ -17,7 +17,7 @@ returns-then-n-gt4 c =
 
 pub returns-in_err-numbered : goal.returns-in_err-numbered
 returns-in_err-numbered c =
-    let p = err_from_is_err_and c.from-residual-in_err-numbered.result c.from-residual-in_err-numbered.ensures.1 in
+    let p = err_from_is_err_and c.from_residual-in_err-numbered.result c.from_residual-in_err-numbered.ensures.1 in
     rw (p.1, p.2)
     (terms_refused c.args.text.now c.args.table.now c.args.params.now c.args.count c.args.below c.args.name c.args.n c.args.terms.now
     c.in_ok-rule.rule c.in_err-numbered.field-0.0 c.in_ok-rule.ensures.settled c.in_err-numbered.ensures)

@@ -4,13 +4,13 @@ use Rattle.names.proofs.entries.number_compared.Goals as goal
 
 pub returns-in_err-x : goal.returns-in_err-x
 returns-in_err-x c =
-    let p = err_from_is_err_and c.from-residual.result c.from-residual.ensures.1 in
+    let p = err_from_is_err_and c.from_residual.result c.from_residual.ensures.1 in
     rw (p.1, p.2)
     (λ below. left_refused c.args.text.now c.args.table.now c.args.params.now c.args.count below c.args.sign c.args.left c.args.right c.in_err-x.field-0.0 c.in_err-x.ensures)
 
 pub returns-in_err-y : goal.returns-in_err-y
 returns-in_err-y c =
-    let p = err_from_is_err_and c.from-residual-in_err-y.result c.from-residual-in_err-y.ensures.1 in
+    let p = err_from_is_err_and c.from_residual-in_err-y.result c.from_residual-in_err-y.ensures.1 in
     rw (p.1, p.2)
     (λ below. right_refused c.args.text.now c.args.table.now c.args.params.now c.args.count below c.args.sign c.args.left c.args.right
     c.in_ok-x.x c.in_err-y.field-0.0 c.in_ok-x.ensures c.in_err-y.ensures)

@@ -12,7 +12,7 @@ returns-in-Negated c =
 
 pub returns-in_err-name : goal.returns-in_err-name
 returns-in_err-name c =
-    let p = err_from_is_err_and c.from-residual.result c.from-residual.ensures.1 in
+    let p = err_from_is_err_and c.from_residual.result c.from_residual.ensures.1 in
     rw (p.1, p.2)
     (subst (λ z. EntrySettled c.args.text.now c.args.table.now c.args.params.now c.args.count c.args.below z (Err c.in_err-name.field-0.0)) (sym c.in-Picked.is)
     (pick_refused c.args.text.now c.args.table.now c.args.params.now c.args.count c.args.below c.in-Picked.word c.in-Picked.part c.in_err-name.field-0.0 c.in_err-name.ensures))
@@ -24,7 +24,7 @@ returns-in_ok-name c =
 
 pub returns-in_err-known : goal.returns-in_err-known
 returns-in_err-known c =
-    let p = err_from_is_err_and c.from-residual-in_err-known.result c.from-residual-in_err-known.ensures.1 in
+    let p = err_from_is_err_and c.from_residual-in_err-known.result c.from_residual-in_err-known.ensures.1 in
     rw (p.1, p.2)
     (subst (λ z. EntrySettled c.args.text.now c.args.table.now c.args.params.now c.args.count c.args.below z (Err c.in_err-known.field-0.0)) (sym c.in-Joined.is)
     (weights_refused c.args.text.now c.args.table.now c.args.params.now c.args.count c.args.below c.in-Joined.join c.in-Joined.weights c.in-Joined.left c.in-Joined.right

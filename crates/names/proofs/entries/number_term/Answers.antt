@@ -15,7 +15,7 @@ returns-in-Constant c =
 
 pub returns-in_err-name : goal.returns-in_err-name
 returns-in_err-name c =
-    let p = err_from_is_err_and c.from-residual.result c.from-residual.ensures.1 in
+    let p = err_from_is_err_and c.from_residual.result c.from_residual.ensures.1 in
     rw (p.1, p.2)
     (subst (λ z. TermSettled c.args.text.now c.args.table.now c.args.params.now c.args.count z (Err c.in_err-name.field-0.0))
     (sym c.in-Bare.is)
@@ -31,7 +31,7 @@ returns-in_ok-name c =
 
 pub returns-in_err-name-2 : goal.returns-in_err-name-2
 returns-in_err-name-2 c =
-    let p = err_from_is_err_and c.from-residual-in_err-name-2.result c.from-residual-in_err-name-2.ensures.1 in
+    let p = err_from_is_err_and c.from_residual-in_err-name-2.result c.from_residual-in_err-name-2.ensures.1 in
     rw (p.1, p.2)
     (subst (λ z. TermSettled c.args.text.now c.args.table.now c.args.params.now c.args.count z (Err c.in_err-name-2.field-0.0))
     (sym c.in-Raised.is)
@@ -47,7 +47,7 @@ returns-in_ok-name-2 c =
 
 pub returns-in_err-name-3 : goal.returns-in_err-name-3
 returns-in_err-name-3 c =
-    let p = err_from_is_err_and c.from-residual-in_err-name-3.result c.from-residual-in_err-name-3.ensures.1 in
+    let p = err_from_is_err_and c.from_residual-in_err-name-3.result c.from_residual-in_err-name-3.ensures.1 in
     rw (p.1, p.2)
     (subst (λ z. TermSettled c.args.text.now c.args.table.now c.args.params.now c.args.count z (Err c.in_err-name-3.field-0.0))
     (sym c.in-Lowered.is)

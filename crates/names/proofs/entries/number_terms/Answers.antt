@@ -29,7 +29,7 @@ loop-i-init c = (omega arith, (refl, zero_terms), λ rs. no_uses, end)
 
 pub returns-in_err-known : goal.returns-in_err-known
 returns-in_err-known c =
-    let p = err_from_is_err_and c.from-residual.result c.from-residual.ensures.1 in
+    let p = err_from_is_err_and c.from_residual.result c.from_residual.ensures.1 in
     let s = take_split c.args.terms.now c.args.n c.loop-i.i (Constant 0) c.loop-i-test.true (omega arith) in
     rw (p.1, p.2)
     (λ rs up.

@@ -89,7 +89,7 @@ returns-in_err-result t c =
     let h = c.in_err-result.ensures in
     record {
       read =
-          read_not_out c.args.line c.requires.within c.in-Not.is c.from-residual.ensures
+          read_not_out c.args.line c.requires.within c.in-Not.is c.from_residual.ensures
           h.read;
       falls = h.falls;
     }
@@ -131,7 +131,7 @@ returns-in_err-result-2 t c =
     let h = c.in_err-result-2.ensures in
     record {
       read = read_left_out c.args.line c.requires.within c.in-Join.is
-          c.from-residual-in_err-result-2.ensures h.read;
+          c.from_residual-in_err-result-2.ensures h.read;
       falls = h.falls;
     }
 

@@ -18,7 +18,7 @@ returns c =
       left = (
         (h, l),
         marks_keep s.width s.rows f c.args.sign k c.narrow.new.self h
-            (omega (arith, lent.0, s.few.1))
-            (λ v. c.narrow.ensures v ∙ ap (λ r. has r v && holds c.args.sign v k) (lent.1 no_row)),
+            (omega (arith, lent.facts.0, s.few.1))
+            (λ v. c.narrow.ensures v ∙ ap (λ r. has r v && holds c.args.sign v k) (lent.facts.1 no_row)),
       );
     }

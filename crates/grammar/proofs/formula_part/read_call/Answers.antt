@@ -1,6 +1,6 @@
 use Rattle.std.proofs.Common.{arith}
 use Rattle.grammar.proofs.Formulas.{call_read}
-use Rattle.grammar.proofs.formula.read_call.Goals as goal
+use Rattle.grammar.proofs.formula_part.read_call.Goals as goal
 
 pub returns : goal.returns
 returns c =

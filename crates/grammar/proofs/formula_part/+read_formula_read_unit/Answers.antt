@@ -5,11 +5,11 @@ use Rattle.grammar.proofs.Leaves.{no, real, not_true}
 use Rattle.grammar.proofs.Entering.{grown_none, grown_more}
 use Rattle.grammar.proofs.Formulas.{measured_from}
 use Rattle.grammar.proofs.Units.{within_measured, number_unit, name_unit, not_unit, not_stops, pick_unit, pick_name_stops, pick_stops, bracket_unit, bracket_stops, unclosed_stops, unit_stops, deep_not, deep_pick, deep_bracket, alone_formula, first_stops, mixed_stops, weights_stop, right_stops, join_formula}
-use Rattle.grammar.proofs.formula.+read_formula_read_unit.Goals as goal
+use Rattle.grammar.proofs.formula_part.+read_formula_read_unit.Goals as goal
 
 pub read_formula-returns-in_err-left : goal.read_formula-returns-in_err-left
 read_formula-returns-in_err-left t c =
-    let q = err_from_is_err_and c.from-residual.result c.from-residual.ensures.1 in
+    let q = err_from_is_err_and c.from_residual.result c.from_residual.ensures.1 in
     rw (q.1, q.2) (record {
       grown = c.read_unit.ensures.grown;
       measured = tt;
@@ -40,8 +40,8 @@ read_formula-returns-then-not-fits t c =
 
 pub read_formula-returns-in_err-weights : goal.read_formula-returns-in_err-weights
 read_formula-returns-in_err-weights t c =
-    let q = err_from_is_err_and c.from-residual-in_err-weights.result
-    c.from-residual-in_err-weights.ensures.1 in
+    let q = err_from_is_err_and c.from_residual-in_err-weights.result
+    c.from_residual-in_err-weights.ensures.1 in
     rw (q.1, q.2) (record {
       grown = c.read_unit.ensures.grown;
       measured = tt;
@@ -53,8 +53,8 @@ read_formula-returns-in_err-weights t c =
 
 pub read_formula-returns-in_err-right : goal.read_formula-returns-in_err-right
 read_formula-returns-in_err-right t c =
-    let q = err_from_is_err_and c.from-residual-in_err-right.result
-    c.from-residual-in_err-right.ensures.1 in
+    let q = err_from_is_err_and c.from_residual-in_err-right.result
+    c.from_residual-in_err-right.ensures.1 in
     rw (q.1, q.2) (record {
       grown = grown_more c.read_unit.ensures.grown c.read_formula.ensures.grown;
       measured = tt;
@@ -117,7 +117,7 @@ read_unit-returns-then-depth-eq0-3 t c =
 pub read_unit-returns-in_err-inner : goal.read_unit-returns-in_err-inner
 read_unit-returns-in_err-inner t c =
     let lt : 0 < c.args.depth = omega arith in
-    let q = err_from_is_err_and c.from-residual.result c.from-residual.ensures.1 in
+    let q = err_from_is_err_and c.from_residual.result c.from_residual.ensures.1 in
     rw (q.1, q.2) (record {
       grown = c.in_err-inner.ensures.grown;
       measured = tt;
@@ -129,8 +129,8 @@ read_unit-returns-in_err-inner t c =
 pub read_unit-returns-in_err-name : goal.read_unit-returns-in_err-name
 read_unit-returns-in_err-name t c =
     let lt : 0 < c.args.depth = omega arith in
-    let q = err_from_is_err_and c.from-residual-in_err-name.result
-    c.from-residual-in_err-name.ensures.1 in
+    let q = err_from_is_err_and c.from_residual-in_err-name.result
+    c.from_residual-in_err-name.ensures.1 in
     rw (q.1, q.2) (record {
       grown = grown_none c.args.table.now;
       measured = tt;
@@ -142,8 +142,8 @@ read_unit-returns-in_err-name t c =
 pub read_unit-returns-in_err-inner-2 : goal.read_unit-returns-in_err-inner-2
 read_unit-returns-in_err-inner-2 t c =
     let lt : 0 < c.args.depth = omega arith in
-    let q = err_from_is_err_and c.from-residual-in_err-inner-2.result
-    c.from-residual-in_err-inner-2.ensures.1 in
+    let q = err_from_is_err_and c.from_residual-in_err-inner-2.result
+    c.from_residual-in_err-inner-2.ensures.1 in
     rw (q.1, q.2) (record {
       grown = c.in_err-inner-2.ensures.grown;
       measured = tt;
@@ -155,8 +155,8 @@ read_unit-returns-in_err-inner-2 t c =
 pub read_unit-returns-in_err-inner-3 : goal.read_unit-returns-in_err-inner-3
 read_unit-returns-in_err-inner-3 t c =
     let lt : 0 < c.args.depth = omega arith in
-    let q = err_from_is_err_and c.from-residual-in_err-inner-3.result
-    c.from-residual-in_err-inner-3.ensures.1 in
+    let q = err_from_is_err_and c.from_residual-in_err-inner-3.result
+    c.from_residual-in_err-inner-3.ensures.1 in
     rw (q.1, q.2) (record {
       grown = c.in_err-inner-3.ensures.grown;
       measured = tt;
@@ -168,7 +168,7 @@ read_unit-returns-in_err-inner-3 t c =
 pub read_unit-returns-in_err-end : goal.read_unit-returns-in_err-end
 read_unit-returns-in_err-end t c =
     let lt : 0 < c.args.depth = omega arith in
-    let q = err_from_is_err_and c.from-residual-in_err-end.result c.from-residual-in_err-end.ensures.1
+    let q = err_from_is_err_and c.from_residual-in_err-end.result c.from_residual-in_err-end.ensures.1
     in
     rw (q.1, q.2) (record {
       grown = c.in_ok-inner-3.ensures.grown;

@@ -1,6 +1,6 @@
 use Rattle.std.proofs.Common.{arith}
 use Rattle.grammar.proofs.Formulas.{comparison_read}
-use Rattle.grammar.proofs.formula.read_comparison.Goals as goal
+use Rattle.grammar.proofs.formula_part.read_comparison.Goals as goal
 
 pub returns : goal.returns
 returns c =

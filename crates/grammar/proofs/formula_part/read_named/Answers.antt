@@ -3,7 +3,7 @@ use Rattle.std.proofs.lemmas.Result.{err_from_is_err_and}
 use Rattle.grammar.proofs.Leaves.{no, real}
 use Rattle.grammar.proofs.Entering.{grown_none}
 use Rattle.grammar.proofs.Formulas.{measured_from, called_read, compared_read, sum_stops}
-use Rattle.grammar.proofs.formula.read_named.Goals as goal
+use Rattle.grammar.proofs.formula_part.read_named.Goals as goal
 
 pub returns-in-Opening : goal.returns-in-Opening
 returns-in-Opening c =
@@ -18,7 +18,7 @@ returns-in-Opening c =
 
 pub returns-in_err-left : goal.returns-in_err-left
 returns-in_err-left c =
-    let q = err_from_is_err_and c.from-residual.result c.from-residual.ensures.1 in
+    let q = err_from_is_err_and c.from_residual.result c.from_residual.ensures.1 in
     rw (q.1, q.2) (record {
       grown = grown_none c.args.table.now;
       measured = tt;

@@ -1,5 +1,5 @@
 use Rattle.std.proofs.Common.{◌+◌, ◌-◌, ◌*◌, length}
-use Rattle.grammar.proofs.formula.+read_formula_read_unit.Given as goal
+use Rattle.grammar.proofs.formula_part.+read_formula_read_unit.Given as goal
 
 -- the bytes that are left; a formula begins with a unit at the same place
 abbrev pub decreases-read_formula : goal.decreases-read_formula
