@@ -31,9 +31,9 @@ fn practise<S: Store, R: Source>(
     goals: &mut [Goal],
     frames: &mut [Frame],
 )
-    ensures same { Stays width starting store.old store.new }
-    ensures drawn { Draws (tree_of sheet.now) (width store.old)
-        (starting store.old) fuel }
+    ensures same { Stays S.width S.starting store.old store.new }
+    ensures drawn { Draws (tree_of sheet.now) (S.width store.old)
+        (S.starting store.old) fuel }
 {
     let mut picks = [0u16; ENTRIES];
     let mut widths = [0u16; ENTRIES];
@@ -92,11 +92,11 @@ fn issue<S: Store>(
 )
     requires room { taken.old.entries ≤ length marks.old }
     ensures room { taken.new.entries ≤ length marks.new }
-    ensures same { Stays width starting store.old store.new }
-    ensures takes { Takes (tree_of sheet.now) (width store.old)
-        (running (watch walk.old (starting store.old) picks.old widths.old))
+    ensures same { Stays S.width S.starting store.old store.new }
+    ensures takes { Takes (tree_of sheet.now) (S.width store.old)
+        (running (watch walk.old (S.starting store.old) picks.old widths.old))
         taken.old marks.old (Call.Next ∷ [])
-        (running (watch walk.new (starting store.new) picks.new widths.new))
+        (running (watch walk.new (S.starting store.new) picks.new widths.new))
         taken.new marks.new }
 {
     let from = taken.entries;
@@ -130,11 +130,11 @@ pub(crate) fn act<S: Store, R: Source>(
 ) -> Turned
     requires room { taken.old.entries ≤ length marks.old }
     ensures room { taken.new.entries ≤ length marks.new }
-    ensures same { Stays width starting store.old store.new }
-    ensures takes { Takes (tree_of sheet.now) (width store.old)
-        (running (watch walk (starting store.old) picks.old widths.old))
+    ensures same { Stays S.width S.starting store.old store.new }
+    ensures takes { Takes (tree_of sheet.now) (S.width store.old)
+        (running (watch walk (S.starting store.old) picks.old widths.old))
         taken.old marks.old (call ∷ [])
-        (stage_of result (starting store.new) picks.new widths.new)
+        (stage_of result (S.starting store.new) picks.new widths.new)
         taken.new marks.new }
 {
     let mut on = walk;

@@ -26,8 +26,8 @@ pub fn conduct<S: Store, R: Source>(
     frames: &mut [Frame],
     marks: &mut [u16],
 ) -> Session
-    ensures { Conducted (tree_of sheet.now) (width store.old) fuel
-        (starting store.old) calls.now marks.old result marks.new }
+    ensures { Conducted (tree_of sheet.now) (S.width store.old) fuel
+        (S.starting store.old) calls.now marks.old result marks.new }
 {
     let mut walk = start(fuel);
     let mut taken = Taken {

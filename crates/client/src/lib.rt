@@ -38,7 +38,7 @@ pub fn two_marks_differ<S: Store>(
     first: &mut [u16],
     second: &mut [u16],
 ) -> bool
-    ensures { T result → take (width store.old) first.new ≢ take (width store.old) second.new }
+    ensures { T result → take (S.width store.old) first.new ≢ take (S.width store.old) second.new }
 {
     let mut walk = start(fuel);
     let one = walk.next(sheet, store, picks, widths, goals, frames, first);

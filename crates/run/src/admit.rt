@@ -47,8 +47,8 @@ pub(crate) fn admit<S: Store>(
     mark: &[u16],
 ) -> Result<(), Refusal>
     ensures { Admits
-        (setting (tree_of sheet.now) fuel (width store.now)
-        (starting store.now)) given
+        (setting (tree_of sheet.now) fuel (S.width store.now)
+        (S.starting store.now)) given
         (lists picks.now widths.now mark.now (length goals.now)
         (length frames.now)) result }
 {

@@ -35,17 +35,17 @@ pub(crate) fn along<S: Store, R: Source>(
     guide: Guide,
     source: &mut R,
 ) -> End
-    requires fields { width store.old ≡ sheet.now.field_count }
+    requires fields { S.width store.old ≡ sheet.now.field_count }
     requires goals { 16 * (fuel + 1) + 8 ≤ length goals.old }
     requires frames { fuel + 1 ≤ length frames.old }
     requires picks { 16 * (fuel + 1) + 8 ≤ length picks.old }
     requires widths { 16 * (fuel + 1) + 8 ≤ length widths.old }
     requires begun { at.old ≡ 0 }
-    ensures same { RunsWithin width starting current store.old store.new }
-    ensures left { Along (tree_of sheet.now) fuel (starting store.old)
-        (way guide picks.old widths.old at.old (waiting source.old))
+    ensures same { RunsWithin S.width S.starting S.current store.old store.new }
+    ensures left { Along (tree_of sheet.now) fuel (S.starting store.old)
+        (way guide picks.old widths.old at.old (R.waiting source.old))
         result
-        (way guide picks.new widths.new at.new (waiting source.new)) }
+        (way guide picks.new widths.new at.new (R.waiting source.new)) }
 {
     if !begin(sheet, store) {
         return End::DeadEnd;

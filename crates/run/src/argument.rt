@@ -51,8 +51,8 @@ fn shifted(d: Shift, v: u16) -> u16
 
 // The number of an argument that is known.
 pub(crate) fn known<S: Store>(store: &S, a: Argument) -> Option<u16>
-    requires okay { Okay (width store.now) a }
-    ensures { Knows (current store.now) (argument_of a) result }
+    requires okay { Okay (S.width store.now) a }
+    ensures { Knows (S.current store.now) (argument_of a) result }
 {
     match a {
         Argument::Number(n) => Some(n),
@@ -76,17 +76,17 @@ pub(crate) fn resolve<S: Store, R: Source>(
     guide: Guide,
     source: &mut R,
 ) -> Option<Argument>
-    requires frame { FrameOkay (width store.old) frame }
-    requires okay { TermOkay (width store.old) frame.count x }
-    requires some { some (width store.old) (current store.old) ≡ true }
-    requires room { Fits (way guide picks.old widths.old at.old (waiting source.old))
-        (Resolving (arguments_of frame) (current store.old) (term_of x)) }
-    ensures same { Narrows width starting current store.old store.new }
-    ensures left { Resolved (width store.old) (arguments_of frame)
-        (current store.old) (term_of x)
-        (way guide picks.old widths.old at.old (waiting source.old))
-        result (current store.new)
-        (way guide picks.new widths.new at.new (waiting source.new)) }
+    requires frame { FrameOkay (S.width store.old) frame }
+    requires okay { TermOkay (S.width store.old) frame.count x }
+    requires some { some (S.width store.old) (S.current store.old) ≡ true }
+    requires room { Fits (way guide picks.old widths.old at.old (R.waiting source.old))
+        (Resolving (arguments_of frame) (S.current store.old) (term_of x)) }
+    ensures same { Narrows S.width S.starting S.current store.old store.new }
+    ensures left { Resolved (S.width store.old) (arguments_of frame)
+        (S.current store.old) (term_of x)
+        (way guide picks.old widths.old at.old (R.waiting source.old))
+        result (S.current store.new)
+        (way guide picks.new widths.new at.new (R.waiting source.new)) }
 {
     match x {
         Term::Number(n) => Some(Argument::Number(n)),

@@ -38,17 +38,17 @@ fn leave_one<S: Store, R: Source>(
     guide: Guide,
     source: &mut R,
 ) -> bool
-    requires left { Okay (width store.old) x }
-    requires right { Okay (width store.old) y }
-    requires some { some (width store.old) (current store.old) ≡ true }
-    requires room { Fits (way guide picks.old widths.old at.old (waiting source.old))
-        (LeavingOne (current store.old) (argument_of x) (argument_of y)) }
-    ensures same { Narrows width starting current store.old store.new }
-    ensures left { LeftOne (width store.old) (current store.old) (argument_of x)
+    requires left { Okay (S.width store.old) x }
+    requires right { Okay (S.width store.old) y }
+    requires some { some (S.width store.old) (S.current store.old) ≡ true }
+    requires room { Fits (way guide picks.old widths.old at.old (R.waiting source.old))
+        (LeavingOne (S.current store.old) (argument_of x) (argument_of y)) }
+    ensures same { Narrows S.width S.starting S.current store.old store.new }
+    ensures left { LeftOne (S.width store.old) (S.current store.old) (argument_of x)
         (argument_of y)
-        (way guide picks.old widths.old at.old (waiting source.old))
-        result (current store.new)
-        (way guide picks.new widths.new at.new (waiting source.new)) }
+        (way guide picks.old widths.old at.old (R.waiting source.old))
+        result (S.current store.new)
+        (way guide picks.new widths.new at.new (R.waiting source.new)) }
 {
     match known(store, x) {
         Some(_) => true,
@@ -64,11 +64,11 @@ fn leave_one<S: Store, R: Source>(
 
 // Keeps by the sign, and says whether any mark is left.
 fn narrow<S: Store>(store: &mut S, field: u8, sign: Comparison, number: u16) -> bool
-    requires field { field < width store.old }
+    requires field { field < S.width store.old }
     requires number { number < 1024 }
-    ensures same { Narrows width starting current store.old store.new }
-    ensures left { Narrowed (width store.old) (current store.old) field sign
-        number result (current store.new) }
+    ensures same { Narrows S.width S.starting S.current store.old store.new }
+    ensures left { Narrowed (S.width store.old) (S.current store.old) field sign
+        number result (S.current store.new) }
 {
     let _ = store.keep(field as usize, sign, number);
     !store.is_empty()
@@ -76,13 +76,13 @@ fn narrow<S: Store>(store: &mut S, field: u8, sign: Comparison, number: u16) -> 
 
 // A comparison with at most one unknown field.
 fn keep_by<S: Store>(store: &mut S, x: Argument, sign: Comparison, y: Argument) -> bool
-    requires left { Okay (width store.old) x }
-    requires right { Okay (width store.old) y }
-    requires some { some (width store.old) (current store.old) ≡ true }
-    requires apart { AtMostOne (current store.old) (argument_of x) (argument_of y) }
-    ensures same { Narrows width starting current store.old store.new }
-    ensures left { Kept (width store.old) (current store.old) sign
-        (argument_of x) (argument_of y) result (current store.new) }
+    requires left { Okay (S.width store.old) x }
+    requires right { Okay (S.width store.old) y }
+    requires some { some (S.width store.old) (S.current store.old) ≡ true }
+    requires apart { AtMostOne (S.current store.old) (argument_of x) (argument_of y) }
+    ensures same { Narrows S.width S.starting S.current store.old store.new }
+    ensures left { Kept (S.width store.old) (S.current store.old) sign
+        (argument_of x) (argument_of y) result (S.current store.new) }
 {
     match x {
         Argument::Field(f) => match known(store, y) {
@@ -98,12 +98,12 @@ fn keep_by<S: Store>(store: &mut S, x: Argument, sign: Comparison, y: Argument) 
 
 // A comparison whose left side is known to be n.
 fn keep_right<S: Store>(store: &mut S, n: u16, sign: Comparison, y: Argument) -> bool
-    requires right { Okay (width store.old) y }
-    requires some { some (width store.old) (current store.old) ≡ true }
+    requires right { Okay (S.width store.old) y }
+    requires some { some (S.width store.old) (S.current store.old) ≡ true }
     requires small { n < 1024 }
-    ensures same { Narrows width starting current store.old store.new }
-    ensures left { KeptRight (width store.old) (current store.old) sign n
-        (argument_of y) result (current store.new) }
+    ensures same { Narrows S.width S.starting S.current store.old store.new }
+    ensures left { KeptRight (S.width store.old) (S.current store.old) sign n
+        (argument_of y) result (S.current store.new) }
 {
     match y {
         Argument::Field(g) => narrow(store, g, sign.mirrored(), n),
@@ -125,17 +125,17 @@ pub(crate) fn compare<S: Store, R: Source>(
     guide: Guide,
     source: &mut R,
 ) -> Option<bool>
-    requires frame { FrameOkay (width store.old) frame }
-    requires left { TermOkay (width store.old) frame.count l }
-    requires right { TermOkay (width store.old) frame.count r }
-    requires some { some (width store.old) (current store.old) ≡ true }
-    requires room { Fits (way guide picks.old widths.old at.old (waiting source.old))
-        (Comparing (arguments_of frame) (term_of l) sign (term_of r) target (current store.old)) }
-    ensures same { Narrows width starting current store.old store.new }
-    ensures left { Compared (width store.old) (arguments_of frame) (term_of l) sign
-        (term_of r) target (current store.old)
-        (way guide picks.old widths.old at.old (waiting source.old)) result (current store.new)
-        (way guide picks.new widths.new at.new (waiting source.new)) }
+    requires frame { FrameOkay (S.width store.old) frame }
+    requires left { TermOkay (S.width store.old) frame.count l }
+    requires right { TermOkay (S.width store.old) frame.count r }
+    requires some { some (S.width store.old) (S.current store.old) ≡ true }
+    requires room { Fits (way guide picks.old widths.old at.old (R.waiting source.old))
+        (Comparing (arguments_of frame) (term_of l) sign (term_of r) target (S.current store.old)) }
+    ensures same { Narrows S.width S.starting S.current store.old store.new }
+    ensures left { Compared (S.width store.old) (arguments_of frame) (term_of l) sign
+        (term_of r) target (S.current store.old)
+        (way guide picks.old widths.old at.old (R.waiting source.old)) result (S.current store.new)
+        (way guide picks.new widths.new at.new (R.waiting source.new)) }
 {
     let Some(x) = resolve(store, frame, l, picks, widths, at, guide, source) else {
         return None;

@@ -27,12 +27,12 @@ pub fn draw<S: Store, R: Source>(
     frames: &mut [Frame],
     mark: &mut [u16],
 ) -> Result<Drew, Refusal>
-    ensures same { Stays width starting store.old store.new }
-    ensures current { Leaves (starting store.old) (current store.old)
-        (current store.new) result }
+    ensures same { Stays S.width S.starting store.old store.new }
+    ensures current { Leaves (S.starting store.old) (S.current store.old)
+        (S.current store.new) result }
     ensures left { AnswersDraw
-        (setting (tree_of sheet.now) fuel (width store.old)
-        (starting store.old)) (waiting source.old) (waiting source.new)
+        (setting (tree_of sheet.now) fuel (S.width store.old)
+        (S.starting store.old)) (R.waiting source.old) (R.waiting source.new)
         (lists picks.old widths.old mark.old (length goals.old)
         (length frames.old)) result
         (lists picks.new widths.new mark.new (length goals.new)
@@ -59,15 +59,15 @@ fn draw_admitted<S: Store, R: Source>(
     mark: &mut [u16],
 ) -> Result<Drew, Refusal>
     requires fields { SameFields
-        (setting (tree_of sheet.now) fuel (width store.old) (starting store.old)) }
-    requires long { LongEnough fuel (width store.old) 0
+        (setting (tree_of sheet.now) fuel (S.width store.old) (S.starting store.old)) }
+    requires long { LongEnough fuel (S.width store.old) 0
         (lists picks.old widths.old mark.old (length goals.old) (length frames.old)) }
-    ensures same { Stays width starting store.old store.new }
-    ensures current { Leaves (starting store.old) (current store.old)
-        (current store.new) result }
+    ensures same { Stays S.width S.starting store.old store.new }
+    ensures current { Leaves (S.starting store.old) (S.current store.old)
+        (S.current store.new) result }
     ensures left { AnswersDraw
-        (setting (tree_of sheet.now) fuel (width store.old)
-        (starting store.old)) (waiting source.old) (waiting source.new)
+        (setting (tree_of sheet.now) fuel (S.width store.old)
+        (S.starting store.old)) (R.waiting source.old) (R.waiting source.new)
         (lists picks.old widths.old mark.old (length goals.old)
         (length frames.old)) result
         (lists picks.new widths.new mark.new (length goals.new)

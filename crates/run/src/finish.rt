@@ -19,11 +19,11 @@ use store::Store;
 
 // Begins a run: keeps each field's range, in field order. Whether any mark is left.
 pub(crate) fn begin<S: Store>(sheet: &Sheet, store: &mut S) -> bool
-    requires fields { width store.old ≡ sheet.now.field_count }
-    ensures same { Stays width starting store.old store.new }
-    ensures left { current store.new ≡ inside (starting store.old)
+    requires fields { S.width store.old ≡ sheet.now.field_count }
+    ensures same { Stays S.width S.starting store.old store.new }
+    ensures left { S.current store.new ≡ inside (S.starting store.old)
         (ranges_of (tree_of sheet.now)) }
-    ensures tells { result ≡ some (width store.new) (current store.new) }
+    ensures tells { result ≡ some (S.width store.new) (S.current store.new) }
 {
     store.restart();
     for i in 0..sheet.field_count {
@@ -43,15 +43,15 @@ pub(crate) fn finish<S: Store, R: Source>(
     guide: Guide,
     source: &mut R,
 ) -> Option<[u16; 8]>
-    requires few { width store.old ≤ 8 }
-    requires some { some (width store.old) (current store.old) ≡ true }
-    requires room { Fits (way guide picks.old widths.old at.old (waiting source.old))
-        (Ending 0 (width store.old) (current store.old)) }
-    ensures same { Narrows width starting current store.old store.new }
-    ensures left { Finished (width store.old) (current store.old)
-        (way guide picks.old widths.old at.old (waiting source.old))
-        result (current store.new)
-        (way guide picks.new widths.new at.new (waiting source.new)) }
+    requires few { S.width store.old ≤ 8 }
+    requires some { some (S.width store.old) (S.current store.old) ≡ true }
+    requires room { Fits (way guide picks.old widths.old at.old (R.waiting source.old))
+        (Ending 0 (S.width store.old) (S.current store.old)) }
+    ensures same { Narrows S.width S.starting S.current store.old store.new }
+    ensures left { Finished (S.width store.old) (S.current store.old)
+        (way guide picks.old widths.old at.old (R.waiting source.old))
+        result (S.current store.new)
+        (way guide picks.new widths.new at.new (R.waiting source.new)) }
 {
     let mut made = [0u16; 8];
     let n = store.fields();

@@ -27,12 +27,12 @@ pub fn follow<S: Store>(
     frames: &mut [Frame],
     mark: &mut [u16],
 ) -> Result<Ran, Refusal>
-    ensures same { Stays width starting store.old store.new }
-    ensures current { Leaves (starting store.old) (current store.old)
-        (current store.new) result }
+    ensures same { Stays S.width S.starting store.old store.new }
+    ensures current { Leaves (S.starting store.old) (S.current store.old)
+        (S.current store.new) result }
     ensures left { Follows
-        (setting (tree_of sheet.now) fuel (width store.old)
-        (starting store.old)) given
+        (setting (tree_of sheet.now) fuel (S.width store.old)
+        (S.starting store.old)) given
         (lists picks.old widths.old mark.old (length goals.old)
         (length frames.old)) result
         (lists picks.new widths.new mark.new (length goals.new)
@@ -61,15 +61,15 @@ fn follow_admitted<S: Store>(
     mark: &mut [u16],
 ) -> Result<Ran, Refusal>
     requires fields { SameFields
-        (setting (tree_of sheet.now) fuel (width store.old) (starting store.old)) }
-    requires long { LongEnough fuel (width store.old) given
+        (setting (tree_of sheet.now) fuel (S.width store.old) (S.starting store.old)) }
+    requires long { LongEnough fuel (S.width store.old) given
         (lists picks.old widths.old mark.old (length goals.old) (length frames.old)) }
-    ensures same { Stays width starting store.old store.new }
-    ensures current { Leaves (starting store.old) (current store.old)
-        (current store.new) result }
+    ensures same { Stays S.width S.starting store.old store.new }
+    ensures current { Leaves (S.starting store.old) (S.current store.old)
+        (S.current store.new) result }
     ensures left { Follows
-        (setting (tree_of sheet.now) fuel (width store.old)
-        (starting store.old)) given
+        (setting (tree_of sheet.now) fuel (S.width store.old)
+        (S.starting store.old)) given
         (lists picks.old widths.old mark.old (length goals.old)
         (length frames.old)) result
         (lists picks.new widths.new mark.new (length goals.new)

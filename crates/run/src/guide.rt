@@ -61,7 +61,7 @@ impl Guide {
         requires usable { Usable choice }
         requires room { Room 1 (trail picks.now widths.now at) }
         ensures { Tells self choice picks.now widths.now at
-            (waiting source.old) result (waiting source.new) }
+            (R.waiting source.old) result (R.waiting source.new) }
     {
         match self {
             Guide::Recorded(given) => {
@@ -96,9 +96,9 @@ pub(crate) fn choose<R: Source>(
     requires usable { Usable choice }
     requires room { Room 1 (trail picks.old widths.old at.old) }
     ensures { Chosen (choice_of choice)
-        (way guide picks.old widths.old at.old (waiting source.old))
+        (way guide picks.old widths.old at.old (R.waiting source.old))
         result
-        (way guide picks.new widths.new at.new (waiting source.new)) }
+        (way guide picks.new widths.new at.new (R.waiting source.new)) }
 {
     let k = *at;
     let Some(pick) = guide.tell(choice, picks, widths, k, source) else {

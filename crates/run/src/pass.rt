@@ -25,17 +25,17 @@ pub(crate) fn pass<S: Store, R: Source>(
     guide: Guide,
     source: &mut R,
 ) -> Option<Frame>
-    requires frame { FrameOkay (width store.old) frame }
-    requires okay { TermsOkay (width store.old) frame.count ts n }
-    requires some { some (width store.old) (current store.old) ≡ true }
-    requires room { Fits (way guide picks.old widths.old at.old (waiting source.old))
-        (Passing (arguments_of frame) (current store.old) (terms ts n)) }
-    ensures same { Narrows width starting current store.old store.new }
-    ensures left { Passed (width store.old) (arguments_of frame)
-        (current store.old) (terms ts n) n
-        (way guide picks.old widths.old at.old (waiting source.old))
-        result (current store.new)
-        (way guide picks.new widths.new at.new (waiting source.new)) }
+    requires frame { FrameOkay (S.width store.old) frame }
+    requires okay { TermsOkay (S.width store.old) frame.count ts n }
+    requires some { some (S.width store.old) (S.current store.old) ≡ true }
+    requires room { Fits (way guide picks.old widths.old at.old (R.waiting source.old))
+        (Passing (arguments_of frame) (S.current store.old) (terms ts n)) }
+    ensures same { Narrows S.width S.starting S.current store.old store.new }
+    ensures left { Passed (S.width store.old) (arguments_of frame)
+        (S.current store.old) (terms ts n) n
+        (way guide picks.old widths.old at.old (R.waiting source.old))
+        result (S.current store.new)
+        (way guide picks.new widths.new at.new (R.waiting source.new)) }
 {
     let mut made = Frame::NONE;
     for i in 0..n as usize {

@@ -13,11 +13,11 @@ use store::Store;
 
 // Keeps the k-th number of a field, and answers it.
 fn keep_value<S: Store>(store: &mut S, field: usize, k: usize) -> Option<u16>
-    requires field { field < width store.old }
-    requires inside { k < length (values (width store.old) (current store.old) field) }
-    ensures same { Narrows width starting current store.old store.new }
-    ensures left { KeepsValue (width store.old) (current store.old) field k result
-        (current store.new) }
+    requires field { field < S.width store.old }
+    requires inside { k < length (values (S.width store.old) (S.current store.old) field) }
+    ensures same { Narrows S.width S.starting S.current store.old store.new }
+    ensures left { KeepsValue (S.width store.old) (S.current store.old) field k result
+        (S.current store.new) }
 {
     match store.value(field, k) {
         Some(v) => {
@@ -38,15 +38,15 @@ pub(crate) fn settle<S: Store, R: Source>(
     guide: Guide,
     source: &mut R,
 ) -> Option<u16>
-    requires okay { Okay (width store.old) a }
-    requires some { some (width store.old) (current store.old) ≡ true }
-    requires room { Fits (way guide picks.old widths.old at.old (waiting source.old))
-        (Settling (current store.old) (argument_of a)) }
-    ensures same { Narrows width starting current store.old store.new }
-    ensures left { Settled (width store.old) (current store.old) a
-        (way guide picks.old widths.old at.old (waiting source.old))
-        result (current store.new)
-        (way guide picks.new widths.new at.new (waiting source.new)) }
+    requires okay { Okay (S.width store.old) a }
+    requires some { some (S.width store.old) (S.current store.old) ≡ true }
+    requires room { Fits (way guide picks.old widths.old at.old (R.waiting source.old))
+        (Settling (S.current store.old) (argument_of a)) }
+    ensures same { Narrows S.width S.starting S.current store.old store.new }
+    ensures left { Settled (S.width store.old) (S.current store.old) a
+        (way guide picks.old widths.old at.old (R.waiting source.old))
+        result (S.current store.new)
+        (way guide picks.new widths.new at.new (R.waiting source.new)) }
 {
     match a {
         Argument::Number(n) => Some(n),

@@ -84,9 +84,9 @@ fn ask<R: Source>(
     requires usable { 0 < v + w }
     requires room { target ≢ wantsOf word → Room 1 (trail picks.old widths.old at.old) }
     ensures { Sided word v w target
-        (way guide picks.old widths.old at.old (waiting source.old))
+        (way guide picks.old widths.old at.old (R.waiting source.old))
         result
-        (way guide picks.new widths.new at.new (waiting source.new)) }
+        (way guide picks.new widths.new at.new (R.waiting source.new)) }
 {
     if wants(word) == target {
         return Some(Sides::Both(target));
@@ -142,22 +142,22 @@ pub(crate) fn step<S: Store, R: Source>(
     guide: Guide,
     source: &mut R,
 ) -> Turn
-    requires fields { width store.old ≡ sheet.now.field_count }
-    requires some { some (width store.old) (current store.old) ≡ true }
+    requires fields { S.width store.old ≡ sheet.now.field_count }
+    requires some { some (S.width store.old) (S.current store.old) ≡ true }
     requires fit { Fit sheet.now (spot goals.old frames.old d.old) }
     requires hold { d.old.goals ≤ length goals.old }
     requires more { 0 < d.old.goals }
-    requires room { Fits (way guide picks.old widths.old at.old (waiting source.old))
+    requires room { Fits (way guide picks.old widths.old at.old (R.waiting source.old))
         (Solving (rules_of (tree_of sheet.now)) (stack sheet.now (spot goals.old frames.old d.old))
-        d.old.fuel (current store.old)) }
-    ensures same { Narrows width starting current store.old store.new }
+        d.old.fuel (S.current store.old)) }
+    ensures same { Narrows S.width S.starting S.current store.old store.new }
     ensures left { Turned sheet.now
         (stack sheet.now (spot goals.old frames.old d.old))
-        d.old.fuel (current store.old)
-        (way guide picks.old widths.old at.old (waiting source.old))
+        d.old.fuel (S.current store.old)
+        (way guide picks.old widths.old at.old (R.waiting source.old))
         result (spot goals.new frames.new d.new)
-        (current store.new)
-        (way guide picks.new widths.new at.new (waiting source.new)) }
+        (S.current store.new)
+        (way guide picks.new widths.new at.new (R.waiting source.new)) }
 {
     d.goals -= 1;
     let g = goals[d.goals];

@@ -27,19 +27,19 @@ pub(crate) fn work<S: Store, R: Source>(
     guide: Guide,
     source: &mut R,
 ) -> Turn
-    requires fields { width store.old ≡ sheet.now.field_count }
-    requires some { some (width store.old) (current store.old) ≡ true }
+    requires fields { S.width store.old ≡ sheet.now.field_count }
+    requires some { some (S.width store.old) (S.current store.old) ≡ true }
     requires goals { 16 * (fuel + 1) + 8 ≤ length goals.old }
     requires frames { fuel + 1 ≤ length frames.old }
-    requires room { Fits (way guide picks.old widths.old at.old (waiting source.old))
+    requires room { Fits (way guide picks.old widths.old at.old (R.waiting source.old))
         (Matching (rules_of (tree_of sheet.now)) (mark_line (tree_of sheet.now)) fuel
-        (current store.old)) }
-    ensures same { Narrows width starting current store.old store.new }
-    ensures left { Worked (width store.old) (rules_of (tree_of sheet.now))
-        (mark_line (tree_of sheet.now)) fuel (current store.old)
-        (way guide picks.old widths.old at.old (waiting source.old))
-        result (current store.new)
-        (way guide picks.new widths.new at.new (waiting source.new)) }
+        (S.current store.old)) }
+    ensures same { Narrows S.width S.starting S.current store.old store.new }
+    ensures left { Worked (S.width store.old) (rules_of (tree_of sheet.now))
+        (mark_line (tree_of sheet.now)) fuel (S.current store.old)
+        (way guide picks.old widths.old at.old (R.waiting source.old))
+        result (S.current store.new)
+        (way guide picks.new widths.new at.new (R.waiting source.new)) }
 {
     goals[0] = Goal {
         formula: sheet.lines[sheet.rule_count].body,
