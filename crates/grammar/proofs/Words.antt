@@ -1,18 +1,13 @@
 -- What a comparison of bytes and the cutting of a text say of a token's class.
 use Rattle.std.proofs.Common.{◌≡◌, ℕ, ◌+◌, Bool, true, false, cond, List, [], ◌∷◌, ◌++◌, length, take, drop, codes, Decides, sym, refl, ap, ◌∙◌, subst, rules}
-use Rattle.std.specs.Cmp.Lexicographic.{Matches}
 use Rattle.std.specs.Str.{bytes_eq}
-use Rattle.std.proofs.lemmas.Slice.Eq.{slice_eq-Decides, bytes_eq-Decides}
 use Rattle.formula.specs.declared.Join.TheVariants.{And, Or}
 use Rattle.grammar.specs.declared.token.Class.TheVariants as class
 use Rattle.grammar.specs.Parsing.{class_of_word}
-use Rattle.std.proofs.lemmas.Bool.Decides.{Decides-eqb}
 
-pub tested :
-    (xs ys : List ℕ) (r : Bool)
-    → Matches (λ (a b : ℕ) (t : Bool). Decides t (a ≡ b)) xs ys r
-    → bytes_eq xs ys ≡ r
-tested xs ys r m = let h = slice_eq-Decides Decides-eqb xs ys r m in search (rules, bytes_eq-Decides)
+-- a comparison with a literal's bytes
+pub tested : (xs ys zs : List ℕ) (r : Bool) → ys ≡ zs → r ≡ bytes_eq xs ys → bytes_eq xs zs ≡ r
+tested xs ys zs r e h = subst (λ (bytes : List ℕ). bytes_eq xs bytes ≡ r) e (sym h)
 
 -- the class of a word by the seven tests
 pub word_class_by :

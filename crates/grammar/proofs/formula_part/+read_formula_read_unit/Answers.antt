@@ -73,7 +73,7 @@ read_formula-returns t c =
     let is = c.in-Join.is in
     let a = real _ _ c.peek-ahead.result c.peek-ahead.ensures (λ e. no (cc)) in
     let m = l.measured in
-    let n = r.decreases in
+    let n = r.measured in
     record {
       grown = grown_more l.grown (grown_more r.grown c.push-body.ensures.grown);
       measured = (omega arith, omega (arith, m.1, a.0, w.0, n.1), omega (arith, m.2, n.2));
@@ -114,68 +114,68 @@ read_unit-returns-then-depth-eq0-3 t c =
           c.too_deep-then-depth-eq0-3.ensures c.in-Opening.is c.if-depth-eq0-3.true;
     }
 
-pub read_unit-returns-in_err-inner : goal.read_unit-returns-in_err-inner
-read_unit-returns-in_err-inner t c =
+pub read_unit-returns-in_err-inner-in-Not : goal.read_unit-returns-in_err-inner-in-Not
+read_unit-returns-in_err-inner-in-Not t c =
     let lt : 0 < c.args.depth = omega arith in
     let q = err_from_is_err_and c.from_residual.result c.from_residual.ensures.1 in
     rw (q.1, q.2) (record {
-      grown = c.in_err-inner.ensures.grown;
+      grown = c.in_err-inner-in-Not.ensures.grown;
       measured = tt;
       value = not_stops c.args.text.now c.args.depth c.args.at c.args.table.now
           c.args.table.now c.peek-ahead.result c.peek-ahead.ensures _ c.in-Not.is lt
-          c.in_err-inner.ensures.value;
+          c.in_err-inner-in-Not.ensures.value;
     })
 
-pub read_unit-returns-in_err-name : goal.read_unit-returns-in_err-name
-read_unit-returns-in_err-name t c =
+pub read_unit-returns-in_err-name-in-Pick : goal.read_unit-returns-in_err-name-in-Pick
+read_unit-returns-in_err-name-in-Pick t c =
     let lt : 0 < c.args.depth = omega arith in
-    let q = err_from_is_err_and c.from_residual-in_err-name.result
-    c.from_residual-in_err-name.ensures.1 in
+    let q = err_from_is_err_and c.from_residual-in_err-name-in-Pick.result
+    c.from_residual-in_err-name-in-Pick.ensures.1 in
     rw (q.1, q.2) (record {
       grown = grown_none c.args.table.now;
       measured = tt;
       value = pick_name_stops c.args.text.now c.args.depth c.args.at c.args.table.now
           c.args.table.now c.peek-ahead.result c.peek-ahead.ensures _ c.in-Pick.is lt
-          c.in_err-name.ensures;
+          c.in_err-name-in-Pick.ensures;
     })
 
-pub read_unit-returns-in_err-inner-2 : goal.read_unit-returns-in_err-inner-2
-read_unit-returns-in_err-inner-2 t c =
+pub read_unit-returns-in_err-inner-in-Pick : goal.read_unit-returns-in_err-inner-in-Pick
+read_unit-returns-in_err-inner-in-Pick t c =
     let lt : 0 < c.args.depth = omega arith in
-    let q = err_from_is_err_and c.from_residual-in_err-inner-2.result
-    c.from_residual-in_err-inner-2.ensures.1 in
+    let q = err_from_is_err_and c.from_residual-in_err-inner-in-Pick.result
+    c.from_residual-in_err-inner-in-Pick.ensures.1 in
     rw (q.1, q.2) (record {
-      grown = c.in_err-inner-2.ensures.grown;
+      grown = c.in_err-inner-in-Pick.ensures.grown;
       measured = tt;
       value = pick_stops c.args.text.now c.args.depth c.args.at c.args.table.now
-          c.args.table.now c.peek-ahead.result c.peek-ahead.ensures c.in_ok-name.name _
-          c.in-Pick.is lt c.in_ok-name.ensures c.in_err-inner-2.ensures.value;
+          c.args.table.now c.peek-ahead.result c.peek-ahead.ensures c.in_ok-name-in-Pick.name _
+          c.in-Pick.is lt c.in_ok-name-in-Pick.ensures c.in_err-inner-in-Pick.ensures.value;
     })
 
-pub read_unit-returns-in_err-inner-3 : goal.read_unit-returns-in_err-inner-3
-read_unit-returns-in_err-inner-3 t c =
+pub read_unit-returns-in_err-inner-in-Opening : goal.read_unit-returns-in_err-inner-in-Opening
+read_unit-returns-in_err-inner-in-Opening t c =
     let lt : 0 < c.args.depth = omega arith in
-    let q = err_from_is_err_and c.from_residual-in_err-inner-3.result
-    c.from_residual-in_err-inner-3.ensures.1 in
+    let q = err_from_is_err_and c.from_residual-in_err-inner-in-Opening.result
+    c.from_residual-in_err-inner-in-Opening.ensures.1 in
     rw (q.1, q.2) (record {
-      grown = c.in_err-inner-3.ensures.grown;
+      grown = c.in_err-inner-in-Opening.ensures.grown;
       measured = tt;
       value = bracket_stops c.args.text.now c.args.depth c.args.at c.args.table.now
           c.args.table.now c.peek-ahead.result c.peek-ahead.ensures _ c.in-Opening.is lt
-          c.in_err-inner-3.ensures.value;
+          c.in_err-inner-in-Opening.ensures.value;
     })
 
-pub read_unit-returns-in_err-end : goal.read_unit-returns-in_err-end
-read_unit-returns-in_err-end t c =
+pub read_unit-returns-in_err-end-in-Opening : goal.read_unit-returns-in_err-end-in-Opening
+read_unit-returns-in_err-end-in-Opening t c =
     let lt : 0 < c.args.depth = omega arith in
-    let q = err_from_is_err_and c.from_residual-in_err-end.result c.from_residual-in_err-end.ensures.1
+    let q = err_from_is_err_and c.from_residual-in_err-end-in-Opening.result c.from_residual-in_err-end-in-Opening.ensures.1
     in
     rw (q.1, q.2) (record {
-      grown = c.in_ok-inner-3.ensures.grown;
+      grown = c.in_ok-inner-in-Opening.ensures.grown;
       measured = tt;
       value = unclosed_stops c.args.text.now c.args.depth c.args.at c.args.table.now _
           c.peek-ahead.result c.peek-ahead.ensures _ _ c.in-Opening.is lt
-          c.in_ok-inner-3.ensures.value c.in_err-end.ensures;
+          c.in_ok-inner-in-Opening.ensures.value c.in_err-end-in-Opening.ensures;
     })
 
 pub read_unit-returns-in-Number : goal.read_unit-returns-in-Number
@@ -202,51 +202,51 @@ read_unit-returns-in-Name t c =
           c.read_named.ensures.value;
     }
 
-pub read_unit-returns-in_ok-inner : goal.read_unit-returns-in_ok-inner
-read_unit-returns-in_ok-inner t c =
+pub read_unit-returns-in_ok-inner-in-Not : goal.read_unit-returns-in_ok-inner-in-Not
+read_unit-returns-in_ok-inner-in-Not t c =
     let lt : 0 < c.args.depth = omega arith in
     let is = c.in-Not.is in
     let a = real _ _ c.peek-ahead.result c.peek-ahead.ensures (λ e. no (cc)) in
-    let i = c.in_ok-inner.ensures in
+    let i = c.in_ok-inner-in-Not.ensures in
     record {
       grown = grown_more i.grown c.push-body.ensures.grown;
-      measured = within_measured _ _ _ c.in_ok-inner.inner _ c.within.ensures a.0
-          i.decreases;
+      measured = within_measured _ _ _ c.in_ok-inner-in-Not.inner _ c.within.ensures a.0
+          i.measured;
       value = not_unit c.args.text.now c.args.depth c.args.at c.args.table.now _
-          c.peek-ahead.result c.peek-ahead.ensures c.in_ok-inner.inner _ is lt i.value
+          c.peek-ahead.result c.peek-ahead.ensures c.in_ok-inner-in-Not.inner _ is lt i.value
           c.push-body.ensures c.within.ensures;
     }
 
-pub read_unit-returns-in_ok-inner-2 : goal.read_unit-returns-in_ok-inner-2
-read_unit-returns-in_ok-inner-2 t c =
+pub read_unit-returns-in_ok-inner-in-Pick : goal.read_unit-returns-in_ok-inner-in-Pick
+read_unit-returns-in_ok-inner-in-Pick t c =
     let lt : 0 < c.args.depth = omega arith in
     let is = c.in-Pick.is in
     let a = real _ _ c.peek-ahead.result c.peek-ahead.ensures (λ e. no (cc)) in
-    let n = c.in_ok-name.ensures in
-    let i = c.in_ok-inner-2.ensures in
+    let n = c.in_ok-name-in-Pick.ensures in
+    let i = c.in_ok-inner-in-Pick.ensures in
     record {
       grown = grown_more i.grown c.push-body-in-Pick.ensures.grown;
-      measured = within_measured _ _ _ c.in_ok-inner-2.inner _ c.within-in-Pick.ensures
-          (omega (arith, a.0, n.0)) i.decreases;
+      measured = within_measured _ _ _ c.in_ok-inner-in-Pick.inner _ c.within-in-Pick.ensures
+          (omega (arith, a.0, n.0)) i.measured;
       value = pick_unit c.args.text.now c.args.depth c.args.at c.args.table.now _
-          c.peek-ahead.result c.peek-ahead.ensures c.in_ok-name.name
-          c.in_ok-inner-2.inner _ is lt n i.value c.push-body-in-Pick.ensures
+          c.peek-ahead.result c.peek-ahead.ensures c.in_ok-name-in-Pick.name
+          c.in_ok-inner-in-Pick.inner _ is lt n i.value c.push-body-in-Pick.ensures
           c.within-in-Pick.ensures;
     }
 
-pub read_unit-returns-in_ok-end : goal.read_unit-returns-in_ok-end
-read_unit-returns-in_ok-end t c =
+pub read_unit-returns-in_ok-end-in-Opening : goal.read_unit-returns-in_ok-end-in-Opening
+read_unit-returns-in_ok-end-in-Opening t c =
     let lt : 0 < c.args.depth = omega arith in
     let is = c.in-Opening.is in
     let a = real _ _ c.peek-ahead.result c.peek-ahead.ensures (λ e. no (cc)) in
-    let i = c.in_ok-inner-3.ensures in
-    let e = c.in_ok-end.ensures in
-    let m = i.decreases in
+    let i = c.in_ok-inner-in-Opening.ensures in
+    let e = c.in_ok-end-in-Opening.ensures in
+    let m = i.measured in
     record {
       grown = i.grown;
       measured = (m.0, omega (arith, m.1, a.0, e.0), m.2);
       value = bracket_unit c.args.text.now c.args.depth c.args.at c.args.table.now _
-          c.peek-ahead.result c.peek-ahead.ensures c.in_ok-inner-3.inner _ is lt i.value
+          c.peek-ahead.result c.peek-ahead.ensures c.in_ok-inner-in-Opening.inner _ is lt i.value
           e;
     }
 

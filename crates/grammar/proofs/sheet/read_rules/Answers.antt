@@ -11,7 +11,7 @@ loop-table-init c = (
 
 pub loop-table-preserved : goal.loop-table-preserved
 loop-table-preserved c =
-    let o = c.in_ok-from.ensures in (
+    let o = c.in_ok-from-in-Rule.ensures in (
       o.room,
       rules_more c.args.text.now c.args.at c.args.table.now c.loop-table.table
           c.loop-table.from c.peek-ahead.result c.peek-ahead.ensures _ c.loop-table.invariant.1
@@ -26,10 +26,10 @@ returns-in_default c = record {
       c.in_default.not-Rule;
 }
 
-pub returns-in_err-from : goal.returns-in_err-from
-returns-in_err-from c =
+pub returns-in_err-from-in-Rule : goal.returns-in_err-from-in-Rule
+returns-in_err-from-in-Rule c =
     let q = err_from_is_err_and c.from_residual.result c.from_residual.ensures.1 in
-    let o = c.in_err-from.ensures in
+    let o = c.in_err-from-in-Rule.ensures in
     rw (q.1, q.2) (record {
       room = o.room;
       value = rules_stop c.args.text.now c.args.at c.args.table.now c.loop-table.table

@@ -7,25 +7,25 @@ returns-in_default c =
     bare_read _ _ c.peek-ahead.result c.peek-ahead.ensures c.args.word c.requires
     c.in_default.not-Plus c.in_default.not-Minus
 
-pub returns-in_err-number : goal.returns-in_err-number
-returns-in_err-number c =
+pub returns-in_err-number-in-Plus : goal.returns-in_err-number-in-Plus
+returns-in_err-number-in-Plus c =
     let q = err_from_is_err_and c.from_residual.result c.from_residual.ensures.1 in
     rw (q.1, q.2) (plus_stops _ _ c.peek-ahead.result c.peek-ahead.ensures c.args.word _
-    c.in-Plus.is c.in_err-number.ensures)
+    c.in-Plus.is c.in_err-number-in-Plus.ensures)
 
-pub returns-in_err-number-2 : goal.returns-in_err-number-2
-returns-in_err-number-2 c =
-    let q = err_from_is_err_and c.from_residual-in_err-number-2.result
-    c.from_residual-in_err-number-2.ensures.1 in
+pub returns-in_err-number-in-Minus : goal.returns-in_err-number-in-Minus
+returns-in_err-number-in-Minus c =
+    let q = err_from_is_err_and c.from_residual-in_err-number-in-Minus.result
+    c.from_residual-in_err-number-in-Minus.ensures.1 in
     rw (q.1, q.2) (minus_stops _ _ c.peek-ahead.result c.peek-ahead.ensures c.args.word _
-    c.in-Minus.is c.in_err-number-2.ensures)
+    c.in-Minus.is c.in_err-number-in-Minus.ensures)
 
-pub returns-in_ok-number : goal.returns-in_ok-number
-returns-in_ok-number c =
+pub returns-in_ok-number-in-Plus : goal.returns-in_ok-number-in-Plus
+returns-in_ok-number-in-Plus c =
     raised_read _ _ c.peek-ahead.result c.peek-ahead.ensures c.args.word _ c.in-Plus.is
-    c.in_ok-number.ensures
+    c.in_ok-number-in-Plus.ensures
 
-pub returns-in_ok-number-2 : goal.returns-in_ok-number-2
-returns-in_ok-number-2 c =
+pub returns-in_ok-number-in-Minus : goal.returns-in_ok-number-in-Minus
+returns-in_ok-number-in-Minus c =
     lowered_read _ _ c.peek-ahead.result c.peek-ahead.ensures c.args.word _ c.in-Minus.is
-    c.in_ok-number-2.ensures
+    c.in_ok-number-in-Minus.ensures

@@ -29,8 +29,8 @@ returns c =
     elim c.if-word-end.branch [
       | then-word-end w ↦
           elim c.if-word-end-2.branch [
-            | then-word-end-2 v ↦ inside s c.if-word-end.from c.if-word-end-2.to c.args.word.place c.args.word.length w.from-is v.to_is
-            | else-word-end-2 v ↦ cut s c.if-word-end.from c.if-word-end-2.to c.args.word.place c.args.word.length w.from-is v.to_is v.if-word-end-2.false
+            | then-word-end-2 v ↦ inside s c.if-word-end.from c.if-word-end-2.to c.args.word.place c.args.word.length w.from-is v.to-is
+            | else-word-end-2 v ↦ cut s c.if-word-end.from c.if-word-end-2.to c.args.word.place c.args.word.length w.from-is v.to-is v.if-word-end-2.false
           ]
       | else-word-end w ↦ past s c.if-word-end.from c.if-word-end-2.to c.args.word.place c.args.word.length w.from-is w.if-word-end.false
     ]

@@ -2,7 +2,7 @@ use Rattle.names.proofs.Readings.{signs_refused, tabled}
 use Rattle.names.proofs.text.table_of.Goals as goal
 
 pub returns-in-Err : goal.returns-in-Err
-returns-in-Err c = signs_refused c.in_Err.ensures.found
+returns-in-Err c = signs_refused c.in-Err.ensures.found
 
 pub returns : goal.returns
 returns c =

@@ -84,9 +84,9 @@ read-requires-in-Not t c =
     let p = parts_as c.args.sheet.now c.args.line c.args.node c.requires.within c.in-Not.is in
     search (rules, p)
 
-pub returns-in_err-result : goal.returns-in_err-result
-returns-in_err-result t c =
-    let h = c.in_err-result.ensures in
+pub returns-in_err-result-in-Not : goal.returns-in_err-result-in-Not
+returns-in_err-result-in-Not t c =
+    let h = c.in_err-result-in-Not.ensures in
     record {
       read =
           read_not_out c.args.line c.requires.within c.in-Not.is c.from_residual.ensures
@@ -94,9 +94,9 @@ returns-in_err-result t c =
       falls = h.falls;
     }
 
-pub returns-in_ok-result : goal.returns-in_ok-result
-returns-in_ok-result t c =
-    let h = c.in_ok-result.ensures in
+pub returns-in_ok-result-in-Not : goal.returns-in_ok-result-in-Not
+returns-in_ok-result-in-Not t c =
+    let h = c.in_ok-result-in-Not.ensures in
     record {
       read = read_not c.args.line c.requires.within c.in-Not.is h.read;
       falls = h.falls;
@@ -126,12 +126,12 @@ read-requires-in-Join t c =
     in
     search (rules, p)
 
-pub returns-in_err-result-2 : goal.returns-in_err-result-2
-returns-in_err-result-2 t c =
-    let h = c.in_err-result-2.ensures in
+pub returns-in_err-result-in-Join : goal.returns-in_err-result-in-Join
+returns-in_err-result-in-Join t c =
+    let h = c.in_err-result-in-Join.ensures in
     record {
       read = read_left_out c.args.line c.requires.within c.in-Join.is
-          c.from_residual-in_err-result-2.ensures h.read;
+          c.from_residual-in_err-result-in-Join.ensures h.read;
       falls = h.falls;
     }
 
@@ -139,12 +139,12 @@ pub read-requires-else-decides : goal.read-requires-else-decides
 read-requires-else-decides t c =
     let p = parts_as c.args.sheet.now c.args.line c.args.node c.requires.within c.in-Join.is
     in
-    let h : c.read-in-Join.new.fuel ≤ c.args.fuel.now = c.in_ok-result-2.ensures.falls in
+    let h : c.read-in-Join.new.fuel ≤ c.args.fuel.now = c.in_ok-result-in-Join.ensures.falls in
     search (rules, p, h)
 
 pub returns-then-decides : goal.returns-then-decides
 returns-then-decides t c =
-    let h = c.in_ok-result-2.ensures in
+    let h = c.in_ok-result-in-Join.ensures in
     record {
       read =
           read_left c.args.line c.requires.within c.in-Join.is c.if-decides.ensures h.read;
@@ -153,7 +153,7 @@ returns-then-decides t c =
 
 pub returns-else-decides : goal.returns-else-decides
 returns-else-decides t c =
-    let h = c.in_ok-result-2.ensures in
+    let h = c.in_ok-result-in-Join.ensures in
     let g = c.read-else-decides.ensures in
     record {
       read =
