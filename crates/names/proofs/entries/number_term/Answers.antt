@@ -13,50 +13,50 @@ returns-in-Constant c =
     subst (λ z. TermSettled c.args.text.now c.args.table.now c.args.params.now c.args.count z (Ok (NumberTerm c.in-Constant.n)))
     (sym c.in-Constant.is) (λ rs. (no_uses, constant_is))
 
-pub returns-in_err-name : goal.returns-in_err-name
-returns-in_err-name c =
+pub returns-in_err-name-in-Bare : goal.returns-in_err-name-in-Bare
+returns-in_err-name-in-Bare c =
     let p = err_from_is_err_and c.from_residual.result c.from_residual.ensures.1 in
     rw (p.1, p.2)
-    (subst (λ z. TermSettled c.args.text.now c.args.table.now c.args.params.now c.args.count z (Err c.in_err-name.field-0.0))
+    (subst (λ z. TermSettled c.args.text.now c.args.table.now c.args.params.now c.args.count z (Err c.in_err-name-in-Bare.field-0.0))
     (sym c.in-Bare.is)
-    (term_refused c.args.text.now c.args.table.now c.args.params.now c.args.count c.in-Bare.w (Bare c.in-Bare.w) c.in_err-name.field-0.0 refl
-    c.in_err-name.ensures))
+    (term_refused c.args.text.now c.args.table.now c.args.params.now c.args.count c.in-Bare.w (Bare c.in-Bare.w) c.in_err-name-in-Bare.field-0.0 refl
+    c.in_err-name-in-Bare.ensures))
 
-pub returns-in_ok-name : goal.returns-in_ok-name
-returns-in_ok-name c =
-    subst (λ z. TermSettled c.args.text.now c.args.table.now c.args.params.now c.args.count z (Ok (BareTerm c.in_ok-name.name)))
+pub returns-in_ok-name-in-Bare : goal.returns-in_ok-name-in-Bare
+returns-in_ok-name-in-Bare c =
+    subst (λ z. TermSettled c.args.text.now c.args.table.now c.args.params.now c.args.count z (Ok (BareTerm c.in_ok-name-in-Bare.name)))
     (sym c.in-Bare.is)
     (term_named c.args.text.now c.args.table.now c.args.params.now c.args.count c.in-Bare.w (Bare c.in-Bare.w)
-    c.in_ok-name.name (BareTerm c.in_ok-name.name) refl bare_is c.in_ok-name.ensures)
+    c.in_ok-name-in-Bare.name (BareTerm c.in_ok-name-in-Bare.name) refl bare_is c.in_ok-name-in-Bare.ensures)
 
-pub returns-in_err-name-2 : goal.returns-in_err-name-2
-returns-in_err-name-2 c =
-    let p = err_from_is_err_and c.from_residual-in_err-name-2.result c.from_residual-in_err-name-2.ensures.1 in
+pub returns-in_err-name-in-Raised : goal.returns-in_err-name-in-Raised
+returns-in_err-name-in-Raised c =
+    let p = err_from_is_err_and c.from_residual-in_err-name-in-Raised.result c.from_residual-in_err-name-in-Raised.ensures.1 in
     rw (p.1, p.2)
-    (subst (λ z. TermSettled c.args.text.now c.args.table.now c.args.params.now c.args.count z (Err c.in_err-name-2.field-0.0))
+    (subst (λ z. TermSettled c.args.text.now c.args.table.now c.args.params.now c.args.count z (Err c.in_err-name-in-Raised.field-0.0))
     (sym c.in-Raised.is)
-    (term_refused c.args.text.now c.args.table.now c.args.params.now c.args.count c.in-Raised.w (Raised c.in-Raised.w c.in-Raised.n) c.in_err-name-2.field-0.0 refl
-    c.in_err-name-2.ensures))
+    (term_refused c.args.text.now c.args.table.now c.args.params.now c.args.count c.in-Raised.w (Raised c.in-Raised.w c.in-Raised.n) c.in_err-name-in-Raised.field-0.0 refl
+    c.in_err-name-in-Raised.ensures))
 
-pub returns-in_ok-name-2 : goal.returns-in_ok-name-2
-returns-in_ok-name-2 c =
-    subst (λ z. TermSettled c.args.text.now c.args.table.now c.args.params.now c.args.count z (Ok (Moved c.in_ok-name-2.name (Up c.in-Raised.n))))
+pub returns-in_ok-name-in-Raised : goal.returns-in_ok-name-in-Raised
+returns-in_ok-name-in-Raised c =
+    subst (λ z. TermSettled c.args.text.now c.args.table.now c.args.params.now c.args.count z (Ok (Moved c.in_ok-name-in-Raised.name (Up c.in-Raised.n))))
     (sym c.in-Raised.is)
     (term_named c.args.text.now c.args.table.now c.args.params.now c.args.count c.in-Raised.w (Raised c.in-Raised.w c.in-Raised.n)
-    c.in_ok-name-2.name (Moved c.in_ok-name-2.name (Up c.in-Raised.n)) refl raised_is c.in_ok-name-2.ensures)
+    c.in_ok-name-in-Raised.name (Moved c.in_ok-name-in-Raised.name (Up c.in-Raised.n)) refl raised_is c.in_ok-name-in-Raised.ensures)
 
-pub returns-in_err-name-3 : goal.returns-in_err-name-3
-returns-in_err-name-3 c =
-    let p = err_from_is_err_and c.from_residual-in_err-name-3.result c.from_residual-in_err-name-3.ensures.1 in
+pub returns-in_err-name-in-Lowered : goal.returns-in_err-name-in-Lowered
+returns-in_err-name-in-Lowered c =
+    let p = err_from_is_err_and c.from_residual-in_err-name-in-Lowered.result c.from_residual-in_err-name-in-Lowered.ensures.1 in
     rw (p.1, p.2)
-    (subst (λ z. TermSettled c.args.text.now c.args.table.now c.args.params.now c.args.count z (Err c.in_err-name-3.field-0.0))
+    (subst (λ z. TermSettled c.args.text.now c.args.table.now c.args.params.now c.args.count z (Err c.in_err-name-in-Lowered.field-0.0))
     (sym c.in-Lowered.is)
-    (term_refused c.args.text.now c.args.table.now c.args.params.now c.args.count c.in-Lowered.w (Lowered c.in-Lowered.w c.in-Lowered.n) c.in_err-name-3.field-0.0 refl
-    c.in_err-name-3.ensures))
+    (term_refused c.args.text.now c.args.table.now c.args.params.now c.args.count c.in-Lowered.w (Lowered c.in-Lowered.w c.in-Lowered.n) c.in_err-name-in-Lowered.field-0.0 refl
+    c.in_err-name-in-Lowered.ensures))
 
-pub returns-in_ok-name-3 : goal.returns-in_ok-name-3
-returns-in_ok-name-3 c =
-    subst (λ z. TermSettled c.args.text.now c.args.table.now c.args.params.now c.args.count z (Ok (Moved c.in_ok-name-3.name (Down c.in-Lowered.n))))
+pub returns-in_ok-name-in-Lowered : goal.returns-in_ok-name-in-Lowered
+returns-in_ok-name-in-Lowered c =
+    subst (λ z. TermSettled c.args.text.now c.args.table.now c.args.params.now c.args.count z (Ok (Moved c.in_ok-name-in-Lowered.name (Down c.in-Lowered.n))))
     (sym c.in-Lowered.is)
     (term_named c.args.text.now c.args.table.now c.args.params.now c.args.count c.in-Lowered.w (Lowered c.in-Lowered.w c.in-Lowered.n)
-    c.in_ok-name-3.name (Moved c.in_ok-name-3.name (Down c.in-Lowered.n)) refl lowered_is c.in_ok-name-3.ensures)
+    c.in_ok-name-in-Lowered.name (Moved c.in_ok-name-in-Lowered.name (Down c.in-Lowered.n)) refl lowered_is c.in_ok-name-in-Lowered.ensures)

@@ -5,12 +5,12 @@ use Rattle.names.proofs.Lookups.{no_rule_line, stands_at, none_more, none_all}
 use Rattle.names.proofs.lookup.has_other_count.Goals as goal
 use Rattle.names.proofs.lookup.has_other_count.Goals.{else-alike-via-then-alike+else-rule-count, else-alike-via-else-alike}
 
-pub returns-then-rule_count : goal.returns-then-rule_count
-returns-then-rule_count c = (
+pub returns-then-rule-count : goal.returns-then-rule-count
+returns-then-rule-count c = (
   c.loop-i.i,
   _,
   stands_at c.args.rules.now c.args.below c.loop-i.i no_rule_line c.loop-i-test.true (omega arith),
-  (c.if-alike.ensures, c.if-rule_count.true),
+  (c.if-alike.ensures, c.if-rule-count.true),
 )
 
 pub loop-i-preserved : goal.loop-i-preserved
@@ -18,7 +18,7 @@ loop-i-preserved c =
     none_more (λ (f : RuleLine). Alike c.args.text.now f.name c.args.name × (f.param_count ≡ c.args.count → ⊥))
     c.args.rules.now c.args.below c.loop-i.i no_rule_line c.loop-i.invariant
     (elim c.else-alike.branch [
-      | else-alike-via-then-alike+else-rule-count w ↦ λ h. h.1 w.if-rule_count.false
+      | else-alike-via-then-alike+else-rule-count w ↦ λ h. h.1 w.if-rule-count.false
       | else-alike-via-else-alike w ↦ λ h. w.if-alike.ensures h.0
     ])
 
