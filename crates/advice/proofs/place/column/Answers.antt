@@ -4,7 +4,7 @@ use Rattle.advice.proofs.place.column.Goals as goal
 
 pub returns : goal.returns
 returns c = record {
-  value = omega (arith, c.within.ensures.value, c.start_of_line.ensures);
+  value = omega (arith, c.within.ensures.value, c.line_start.ensures);
   one_place = one_place c.args.text.now c.args.place;
   stands_under = stands_under c.args.text.now c.args.place;
 }

@@ -14,10 +14,10 @@ loop-byte-preserved c =
     elim c.if-byte-eq10.branch [
       | then-byte-eq10 w ↦
           let step = count_by_more_yes is_line_feed bytes i 0 inside (eq-eqb _ 10 w.if-byte-eq10.true) in
-          (omega (arith, w.count_is, inv.0), omega (arith, w.count_is, inv.1))
+          (omega (arith, w.count-is, inv.0), omega (arith, w.count-is, inv.1))
       | else-byte-eq10 w ↦
           let step = count_by_more_no is_line_feed bytes i 0 inside (ne_eqb _ 10 w.if-byte-eq10.false) in
-          (omega (arith, w.count_is, inv.0), omega (arith, w.count_is, inv.1))
+          (omega (arith, w.count-is, inv.0), omega (arith, w.count-is, inv.1))
     ]
 
 pub returns : goal.returns
