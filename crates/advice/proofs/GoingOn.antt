@@ -1,7 +1,6 @@
 -- Whether a text can go on to a sheet, by how it is parsed.
-use Rattle.std.proofs.Common.{◌≡◌, ℕ, ◌+◌, ◌<◌, Bool, true, false, eqb, List, [], ◌∷◌, ◌++◌, length, Decides, sym, refl, ap, ◌∙◌, subst, append_assoc, append-nil, zero-add, arith, length-append, eq-eqb, eqb-true}
+use Rattle.std.proofs.Common.{◌≡◌, ℕ, ◌+◌, ◌<◌, eqb, List, [], ◌∷◌, ◌++◌, length, Decides, sym, refl, ap, ◌∙◌, subst, append_assoc, append-nil, arith, length-append, eq-eqb, eqb-true}
 use Rattle.signs.specs.Tokens.{TokAt}
-use Rattle.signs.specs.Tokens as signs
 use Rattle.signs.specs.Cutting.{Cut, stop, gap, token, Tokenized}
 use Rattle.signs.specs.Laws.{OneVerdict}
 use Rattle.signs.proofs.Once.{takes_some}

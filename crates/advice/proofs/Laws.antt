@@ -1,5 +1,5 @@
 -- Line and column name one place, and the mark stands under it.
-use Rattle.std.proofs.Common.{◌≡◌, ℕ, ◌+◌, ◌-◌, ◌<◌, ◌≤◌, min, cond, ◌≢◌, List, [], ◌∷◌, ◌++◌, map, length, get_or, take, replicate, count_by, sym, refl, ap, ◌∙◌, ⊎_elim, arith, length-take, eq-eqb}
+use Rattle.std.proofs.Common.{◌≡◌, ℕ, ◌+◌, ◌-◌, ◌<◌, ◌≤◌, min, cond, List, [], ◌∷◌, map, length, get_or, take, replicate, count_by, sym, ap, ◌∙◌, ⊎_elim, arith, length-take, eq-eqb}
 use lib.ListN.{length-map}
 use Rattle.std.proofs.lemmas.List.Edits.{length-between, get_or-between}
 use Rattle.std.proofs.lemmas.List.{get_or_append_left, get_or_at, get_or-map, take-take}

@@ -1,6 +1,6 @@
 -- What may stand at a place of a text, as far as the grammar tells: after the bytes before the place, a blank and a
 -- token, the text can still go on to a sheet.
-use Rattle.std.specs.Prelude.{◌≡◌, ℕ, ◌+◌, ◌<◌, ◌≤◌, Bool, List, ◌∷◌, ◌++◌, length, Ok, Err, codes, Decides, Result}
+use Rattle.std.specs.Prelude.{◌≡◌, ℕ, ◌+◌, ◌<◌, ◌≤◌, Bool, List, ◌++◌, length, Ok, Err, codes, Decides, Result}
 use Rattle.refusal.specs.declared.Refusal.{Refusal}
 use Rattle.refusal.specs.Table.{number}
 use Rattle.signs.specs.Tokens.{TokAt}

@@ -1,5 +1,5 @@
 -- What a session leaves, by the law of its walk.
-use Rattle.std.proofs.Common.{◌≡◌, ℕ, ◌+◌, Bool, true, false, ◌⊎◌, List, [], ◌∷◌, ◌++◌, length, Some, None, Option, sym, refl, ap, ◌∙◌, subst, inl, inr, zero-add, arith}
+use Rattle.std.proofs.Common.{◌≡◌, ℕ, true, false, List, [], ◌∷◌, ◌++◌, length, Some, None, Option, sym, refl, ap, ◌∙◌, subst, inl, inr, zero-add, arith}
 use Rattle.formula.specs.Trees.{Sheet}
 use Rattle.marks.specs.Sets.{Marks}
 use Rattle.meaning.specs.Reading.{Allowed}
@@ -11,7 +11,7 @@ use Rattle.walk.specs.Law as law
 use Rattle.walk.specs.Law.{Law, History, Stage, running, closed, Among}
 use Rattle.client.specs.declared.call.Call.{Call}
 use Rattle.client.specs.declared.call.Taken.{Taken}
-use Rattle.client.specs.Sessions.{calls_of, ended, numbers_in, put_at, Takes, FiguresAre, CallsMade, Conducted}
+use Rattle.client.specs.Sessions.{ended, numbers_in, put_at, Takes, FiguresAre, CallsMade, Conducted}
 
 -- nothing taken yet
 abbrev pub nothing : Taken

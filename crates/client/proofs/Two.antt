@@ -1,5 +1,5 @@
 -- Two marks of one history differ.
-use Rattle.std.proofs.Common.{◌≡◌, ℕ, List, take, Ok, Result, sym, refl, subst, inl}
+use Rattle.std.proofs.Common.{◌≡◌, ℕ, List, take, Ok, Result, subst, inl}
 use Rattle.refusal.specs.declared.Refusal.{Refusal}
 use Rattle.formula.specs.Trees.{Sheet}
 use Rattle.walk.specs.declared.answer.Answer.{Answer}

@@ -7,8 +7,6 @@ use Rattle.refusal.specs.declared.Refusal.{Refusal}
 use Rattle.meaning.specs.Reading.{Allowed}
 use Rattle.meaning.specs.Runs.{Outcome}
 use Rattle.meaning.specs.Walks.{WholeWalk}
-use Rattle.reading.specs.declared.Reading.{Reading}
-use Rattle.reading.specs.Answers.{answer_of, Right}
 use Rattle.run.specs.declared.answer.Drew.{Drew}
 use Rattle.run.specs.Answering.{Lists, setting, AnswersDraw}
 use Rattle.walk.specs.declared.answer.Answer.{Answer}

@@ -1,7 +1,7 @@
 -- Tokens that are taken from a state to the end, by moves that the limits permit. Moves are determined.
-use Rattle.std.proofs.Common.{◌≡◌, ℕ, List, [], ◌∷◌, ◌++◌, sym, refl, ap, subst}
-use Rattle.grammar.specs.Grammar.{Tok, name, number, field, rule, mark, not, pick, join, sign, opening, closing, comma, semicolon, colon, plus, minus, at, Tokens, Level, any, only, Limits, strict, loose}
-use Rattle.grammar.specs.Moves.{Shape, some_name, SomeNumber, some_sign, field_word, opening_sign, semicolon_sign, colon_sign, Is, is_name, is_number, is_sign, is_field, is_opening, is_semicolon, is_colon, Line, of_rule, of_mark, Open, whole, inner, allowance, State, expects, fields, rules, ended, names, more_names, term, summed, terms, more_terms, a_unit, named, more, after_join, numbered, field_rest, start, rule_body, rule_rest, compared_with, Need, free, level, like, Allowed, NoSum, Move, asked, line_field, no_field, line_rule, line_mark, no_names, first_name, names_end, next_name, term_number, term_name, sum_plus, sum_minus, no_sum, no_terms, first_number, first_term, terms_end, next_term, unit_number, unit_name, unit_not, unit_pick, unit_bracket, unit_call, unit_compares, next_join, bracket_end, rule_end, mark_end, join_number, join_name, join_opens, weight_colon, weight_none}
+use Rattle.std.proofs.Common.{◌≡◌, ℕ, [], ◌∷◌, ◌++◌, refl, subst}
+use Rattle.grammar.specs.Grammar.{Tok, at, Tokens, Limits, strict, loose}
+use Rattle.grammar.specs.Moves.{State, ended, Need, free, level, like, Allowed, Move, asked, line_field, no_field, line_rule, line_mark, no_names, first_name, names_end, next_name, term_number, term_name, sum_plus, sum_minus, no_sum, no_terms, first_number, first_term, terms_end, next_term, unit_number, unit_name, unit_not, unit_pick, unit_bracket, unit_call, unit_compares, next_join, bracket_end, rule_end, mark_end, join_number, join_name, join_opens, weight_colon, weight_none}
 
 -- the tokens are all taken, and nothing more is to come
 pub data Accepts (L : Limits) : State → Tokens → Type 0 where

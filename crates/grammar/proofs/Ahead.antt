@@ -1,24 +1,22 @@
 -- What looking ahead gives: the class of the first token that is left.
-use Rattle.std.proofs.Common.{◌≡◌, ℕ, ◌+◌, ◌<◌, ◌≤◌, Bool, true, false, cond, List, [], ◌∷◌, ◌++◌, length, take, drop, codes, sym, refl, ap, ◌∙◌, subst, arith, Bor}
+use Rattle.std.proofs.Common.{◌≡◌, ℕ, Bool, true, false, cond, List, [], ◌∷◌, ◌++◌, length, take, drop, codes, sym, refl, ap, ◌∙◌, subst, arith, Bor}
 use Rattle.std.specs.Str.{bytes_eq}
 use Rattle.std.proofs.lemmas.List.{take_at, drop-drop}
 use Rattle.formula.specs.declared.Join.TheVariants.{And, Or}
 use Rattle.signs.specs.declared.token.Sign.{Sign}
 use Rattle.signs.specs.declared.token.Sign.TheVariants as sign
-use Rattle.signs.specs.declared.token.Token.{Token}
 use Rattle.signs.specs.declared.token.Token.TheVariants as token
 use Rattle.signs.specs.declared.token.Placed.{Placed}
 use Rattle.signs.specs.declared.token.Next.{Next}
 use Rattle.signs.specs.declared.token.Next.TheVariants as next
 use Rattle.signs.specs.Tokens as signs
 use Rattle.signs.specs.Tokens.{TokAt, Spells, a_word}
-use Rattle.signs.specs.Cutting.{Cut, stop, gap, token, CutFrom}
-use Rattle.signs.specs.Answers.{spelt, placed, NextToken, NoToken, NextFault, Follows}
+use Rattle.signs.specs.Cutting.{Cut, gap, token, CutFrom}
+use Rattle.signs.specs.Answers.{spelt, placed, NextToken, Follows}
 use Rattle.grammar.specs.declared.token.Class.{Class}
 use Rattle.grammar.specs.declared.token.Class.TheVariants as class
-use Rattle.grammar.specs.declared.token.Ahead.{Ahead}
 use Rattle.grammar.specs.Syntax.{word}
-use Rattle.grammar.specs.Grammar.{Tok, name, field, rule, mark, not, pick, join, Tokens}
+use Rattle.grammar.specs.Grammar.{name, field, rule, mark, not, pick, join, Tokens}
 use Rattle.grammar.specs.Tokens as tokens
 use Rattle.grammar.specs.Tables.{word_of}
 use Rattle.grammar.specs.Parsing.{Left, left, class_of_word, class_of_sign, Says, says_name, says_number, says_field, says_rule, says_mark, says_not, says_pick, says_join, says_sign, says_opening, says_closing, says_comma, says_semicolon, says_colon, says_plus, says_minus, Seen, no_token, a_token, Peeked}

@@ -1,11 +1,10 @@
 -- A sheet that is written out is read back.
-use Rattle.std.proofs.Common.{◌≡◌, ℕ, ◌+◌, ◌-◌, ◌<◌, ◌≤◌, max, List, [], ◌∷◌, refl, arith}
-use Rattle.formula.specs.declared.Join.{Join}
+use Rattle.std.proofs.Common.{ℕ, ◌-◌, ◌≤◌, List, [], ◌∷◌, refl, arith}
 use Rattle.formula.specs.declared.Join.TheVariants.{And, Or}
-use Rattle.grammar.specs.Syntax.{Word, word, Number, num, Term, constant, bare, raised, lowered, Weights, absent, given, Formula, compared, called, negated, picked, joined, Field, field_line, Rule, rule_line, Mark, mark_line, Sheet, sheet}
-use Rattle.grammar.specs.Grammar.{Placed, at, Tokens, comma, closing, name, number, Parted, last, next, Listed, none, some, IsName, a_name, IsTerm, a_constant, a_bare, a_sum, a_difference, IsWeights, no_weights, weights, Level, any, only, Kind, unit, formula, Fits, strict, Reads, a_comparison, a_call, a_not, a_pick, brackets, alone, a_join, IsField, a_field, IsRule, a_rule, IsMark, a_mark, Many, done, line, IsSheet, a_sheet}
+use Rattle.grammar.specs.Syntax.{Word, word, num, Term, constant, bare, raised, lowered, Weights, absent, given, Formula, compared, called, negated, picked, joined, Field, field_line, Rule, rule_line, mark_line, sheet}
+use Rattle.grammar.specs.Grammar.{at, Tokens, comma, closing, Parted, last, next, Listed, none, some, IsName, a_name, IsTerm, a_constant, a_bare, a_sum, a_difference, IsWeights, no_weights, weights, any, only, Kind, unit, formula, Reads, a_comparison, a_call, a_not, a_pick, brackets, alone, a_join, IsField, a_field, IsRule, a_rule, a_mark, Many, done, line, a_sheet}
 use Rattle.grammar.specs.Tables.{nested}
-use Rattle.grammar.specs.Written.{write_more, write_list, write_name, write_term, write_weights, write, write_fields, write_rules, write_sheet, ShallowRules, Writable}
+use Rattle.grammar.specs.Written.{write_more, write_list, write_name, write_term, write_weights, write, write_fields, write_rules, ShallowRules}
 use Rattle.grammar.specs.Laws.{ReadBack}
 
 name_back : (w : Word) (r : Tokens) → IsName (write_name w r) r w

@@ -1,25 +1,13 @@
 -- Items in brackets, one by one: what is read of the list, and what is due.
-use Rattle.std.proofs.Common.{◌≡◌, ℕ, ◌+◌, ◌-◌, ◌<◌, ◌≤◌, Bool, true, false, List, [], ◌∷◌, ◌++◌, map, length, Ok, Err, Result, sym, refl, ap, ◌∙◌, subst, arith, length-append}
+use Rattle.std.proofs.Common.{◌≡◌, ℕ, ◌+◌, ◌≤◌, List, [], ◌∷◌, ◌++◌, map, length, Ok, Err, refl, ap, subst, arith}
 use Rattle.refusal.specs.declared.Fault.{Fault}
-use Rattle.refusal.specs.declared.Refusal.{Refusal}
-use Rattle.refusal.specs.declared.Refusal.TheVariants.{TokenNotPermitted}
-use Rattle.refusal.specs.Table as table
-use Rattle.formula.specs.declared.Comparison.{Comparison}
-use Rattle.formula.specs.declared.Join.{Join}
-use Rattle.grammar.specs.declared.table.Word.{Word as WordEntry}
-use Rattle.grammar.specs.declared.table.Number.{Number as NumberEntry}
-use Rattle.grammar.specs.declared.table.Term.{Term as TermEntry}
-use Rattle.grammar.specs.declared.table.Term.TheVariants as entry
 use Rattle.grammar.specs.declared.token.Class.{Class}
 use Rattle.grammar.specs.declared.token.Class.TheVariants as class
 use Rattle.grammar.specs.declared.token.Ahead.{Ahead}
-use Rattle.grammar.specs.declared.token.Read.{Read}
-use Rattle.grammar.specs.declared.token.Fixed.{Fixed}
-use Rattle.grammar.specs.declared.token.Fixed.TheVariants as fixed
 use Rattle.grammar.specs.declared.list.Few.{Few}
-use Rattle.grammar.specs.Grammar.{Tok, closing, comma, name, number, at, Tokens, Parted, last, next, Listed, none, some}
-use Rattle.grammar.specs.Moves.{State, expects, some_name, is_name, term, terms, more_terms, names, more_names, Need, free, Move, asked, term_number, term_name, no_terms, first_number, first_term, terms_end, next_term, no_names, first_name, names_end, next_name, Unfinished, Halts, goes_on, halts_token, halts_deep, halts_mixed, halts_end, place_of}
-use Rattle.grammar.specs.Parsing.{Left, Says, says_closing, says_comma, Seen, no_token, a_token, Peeked, Stopped, Came, Outcome, Holds4, ListRead, Begun}
+use Rattle.grammar.specs.Grammar.{Tok, closing, comma, Tokens, Parted, last, next, Listed, none, some}
+use Rattle.grammar.specs.Moves.{State, expects, some_name, is_name, term, terms, more_terms, names, more_names, Need, free, Move, asked, term_number, term_name, no_terms, first_number, first_term, terms_end, next_term, no_names, first_name, names_end, next_name, Unfinished, Halts, goes_on, halts_token, halts_deep, halts_mixed, halts_end}
+use Rattle.grammar.specs.Parsing.{Left, Says, says_closing, says_comma, Seen, a_token, Peeked, Stopped, Came, Outcome, Holds4, ListRead, Begun}
 use Rattle.grammar.proofs.Leaves.{no, refused_at, Stuck, stops, real, seen_as}
 
 -- one item more

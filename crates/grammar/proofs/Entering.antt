@@ -1,5 +1,5 @@
 -- Formulas as entries of a table: what is entered stays, and wholes are entered after their parts.
-use Rattle.std.proofs.Common.{◌≡◌, ℕ, suc, ◌+◌, ◌-◌, ◌<◌, ◌≤◌, List, [], ◌∷◌, ◌++◌, map, length, take, sym, refl, ap, ◌∙◌, subst, add-one, arith}
+use Rattle.std.proofs.Common.{◌≡◌, ℕ, suc, ◌+◌, ◌≤◌, List, map, sym, refl, ap, ◌∙◌, subst, arith}
 use lib.ListN.{length-map}
 use Rattle.std.proofs.lemmas.List.{take-map}
 use Rattle.formula.specs.declared.Comparison.{Comparison}
@@ -12,8 +12,8 @@ use Rattle.grammar.specs.declared.table.Node.TheVariants.{Compared, Called, Nega
 use Rattle.grammar.specs.declared.table.Table.{Table}
 use Rattle.grammar.specs.declared.formula_part.Part.{Part}
 use Rattle.grammar.specs.declared.list.Few.{Few}
-use Rattle.grammar.specs.Syntax.{Word, Term, Weights, Formula, compared, called, negated, picked, joined}
-use Rattle.grammar.specs.Tables.{word_of, term_of, weights_of, node_at, Entries, a_comparison, a_call, a_not, a_pick, a_join, size, joins}
+use Rattle.grammar.specs.Syntax.{Formula, compared, called, negated, picked, joined}
+use Rattle.grammar.specs.Tables.{word_of, term_of, weights_of, node_at, Entries, a_comparison, a_call, a_not, a_pick, a_join}
 use Rattle.grammar.specs.Parsing.{Holds4, Grown, Pushed, Entered}
 
 pub grown_none : (t : Table) → Grown t t

@@ -1,38 +1,28 @@
 -- What reading a formula or a unit gives, from what its parts give.
-use Rattle.std.proofs.Common.{◌≡◌, ℕ, ◌+◌, ◌-◌, ◌<◌, ◌≤◌, Bool, true, false, List, [], ◌∷◌, ◌++◌, map, length, Ok, Err, Result, sym, refl, ap, ◌∙◌, subst, arith}
+use Rattle.std.proofs.Common.{◌≡◌, ℕ, ◌≤◌, List, ◌∷◌, length, Ok, Err, Result, sym, refl, ap, subst, arith}
 use Rattle.refusal.specs.declared.Fault.{Fault}
-use Rattle.refusal.specs.declared.Refusal.{Refusal}
-use Rattle.refusal.specs.declared.Refusal.TheVariants.{TokenNotPermitted}
-use Rattle.refusal.specs.Table as table
 use Rattle.formula.specs.declared.Comparison.{Comparison}
 use Rattle.formula.specs.declared.Join.{Join}
 use Rattle.grammar.specs.declared.table.Word.{Word as WordEntry}
 use Rattle.grammar.specs.declared.table.Number.{Number as NumberEntry}
 use Rattle.grammar.specs.declared.table.Term.{Term as TermEntry}
-use Rattle.grammar.specs.declared.table.Term.TheVariants as entry
 use Rattle.grammar.specs.declared.token.Class.{Class}
 use Rattle.grammar.specs.declared.token.Class.TheVariants as class
 use Rattle.grammar.specs.declared.token.Ahead.{Ahead}
 use Rattle.grammar.specs.declared.token.Read.{Read}
-use Rattle.grammar.specs.declared.token.Fixed.{Fixed}
-use Rattle.grammar.specs.declared.token.Fixed.TheVariants as fixed
-use Rattle.refusal.specs.declared.Refusal.TheVariants.{TooDeep, JoinMixes}
-use Rattle.grammar.specs.declared.table.Weights.{Weights as WeightsEntry}
 use Rattle.grammar.specs.declared.table.Weights.TheVariants as weights
-use Rattle.grammar.specs.declared.table.Node.{Node}
 use Rattle.grammar.specs.declared.table.Node.TheVariants as node
 use Rattle.grammar.specs.declared.table.Table.{Table}
 use Rattle.grammar.specs.declared.formula_part.Part.{Part}
 use Rattle.grammar.specs.declared.list.Few.{Few}
-use Rattle.grammar.specs.Syntax.{Word, word, Number, num, Term, constant, Weights, absent, given, Formula, compared, called, negated, picked, joined}
+use Rattle.grammar.specs.Syntax.{Word, word, num, Term, given, compared, called}
 use Rattle.grammar.specs.Grammar as gram
 use Rattle.grammar.specs.Grammar.{Tok, name, number, not, pick, join, sign, opening, closing, colon, at, Tokens, Listed, IsName, a_name, IsTerm, a_constant, IsWeights, no_weights, Level, any, only, Fits, strict, Kind, unit, formula, Reads, a_comparison, a_call, a_not, a_pick, brackets, alone}
-use Rattle.grammar.specs.Tables.{word_of, number_of, term_of, weights_of}
-use Rattle.grammar.specs.Moves.{State, Is, is_name, is_number, is_sign, is_opening, opening_sign, expects, some_name, SomeNumber, some_sign, Open, inner, whole, allowance, term, summed, terms, a_unit, named, more, after_join, numbered, compared_with, Need, level, like, Allowed, Move, asked, unit_number, unit_name, unit_not, unit_pick, unit_bracket, unit_call, unit_compares, next_join, bracket_end, join_number, join_name, join_opens, weight_colon, weight_none, Halts, goes_on, halts_token, halts_deep, halts_mixed, halts_end, place_of}
-use Rattle.grammar.specs.Parsing.{Left, Says, says_name, says_number, says_opening, says_not, says_pick, says_join, says_colon, Seen, no_token, a_token, Peeked, Stopped, Came, Outcome, IsNumber, a_number, IsSign, a_sign, NameRead, NumberRead, SignRead, TermRead, SumRead, TermsRead, Holds4, Pushed, Entered, FormulaIs, Measured, Around, ComparisonRead, CallRead, NamedRead, UnitRead, WeightsRead, NoJoin, FormulaRead, Expected, FirstIs, first_is}
+use Rattle.grammar.specs.Tables.{word_of, number_of}
+use Rattle.grammar.specs.Moves.{State, Is, is_sign, is_opening, opening_sign, expects, some_sign, Open, allowance, term, summed, a_unit, named, more, after_join, numbered, compared_with, Need, Move, asked, unit_number, unit_name, unit_not, unit_pick, unit_bracket, unit_call, unit_compares, join_number, join_name, join_opens, weight_colon, weight_none, Halts, goes_on, halts_token, halts_deep, halts_mixed, halts_end}
+use Rattle.grammar.specs.Parsing.{Left, Says, says_number, says_opening, says_colon, Seen, a_token, Peeked, Stopped, Came, IsNumber, a_number, IsSign, a_sign, NumberRead, SignRead, TermRead, SumRead, TermsRead, Pushed, FormulaIs, Measured, Around, ComparisonRead, CallRead, NamedRead, WeightsRead}
 use Rattle.grammar.proofs.Next.{not_named, not_joined}
-use Rattle.grammar.proofs.Leaves.{no, refused_at, Stuck, stops, real, seen_as}
-use Rattle.grammar.proofs.Terms.{then-stops}
+use Rattle.grammar.proofs.Leaves.{no, real, seen_as}
 use Rattle.grammar.proofs.Entering.{entered_comparison, entered_call}
 
 -- from an earlier place

@@ -1,16 +1,15 @@
 -- Lines that a table keeps: one more, or from now on none.
-use Rattle.std.proofs.Common.{◌≡◌, ℕ, suc, ◌+◌, ◌<◌, ◌≤◌, Bool, true, false, ◌⊎◌, List, [], ◌∷◌, ◌++◌, map, length, take, set, is_some, Some, None, Option, sym, refl, ap, ◌∙◌, subst, inl, inr, append_assoc, arith, length-append}
+use Rattle.std.proofs.Common.{◌≡◌, ℕ, suc, ◌+◌, ◌<◌, ◌≤◌, true, false, ◌⊎◌, List, [], ◌∷◌, ◌++◌, map, length, take, set, is_some, Some, None, Option, sym, refl, ap, ◌∙◌, subst, inl, inr, append_assoc, arith, length-append}
 use lib.ListN.{length-map}
 use Rattle.std.proofs.lemmas.List.{take_all, take_more_set}
 use Rattle.grammar.specs.declared.table.Word.{Word as WordEntry}
 use Rattle.grammar.specs.declared.table.Node.{Node}
 use Rattle.grammar.specs.declared.table.FieldLine.{FieldLine}
 use Rattle.grammar.specs.declared.table.RuleLine.{RuleLine}
-use Rattle.grammar.specs.declared.table.MarkLine.{MarkLine}
 use Rattle.grammar.specs.declared.table.Table.{Table}
 use Rattle.grammar.specs.declared.formula_part.Part.{Part}
 use Rattle.grammar.specs.declared.line.Head.{Head}
-use Rattle.grammar.specs.Syntax.{Word, Number, Formula, Field, field_line, Rule, rule_line, Mark, mark_line, Sheet, sheet}
+use Rattle.grammar.specs.Syntax.{Formula, Field, field_line, Rule, rule_line, mark_line, sheet}
 use Rattle.grammar.specs.Tables.{word_of, number_of, node_at, Entries, size, joins, Over, many_params, many_joins, many_formulas, field_of, fields_of, params_of, rules_of, Rules, no_rules, a_rule, LinesAbove, Holds, over_field, over_rule, over_mark}
 use Rattle.grammar.specs.Tables as tables
 use Rattle.grammar.specs.Parsing.{Holds4, Grown, LinesKept, all_kept, field_over, rule_over, Lines, BodyHeld, Passing}

@@ -1,25 +1,19 @@
 -- What one token ahead gives: an item that it is, or the fault that it is not permitted.
-use Rattle.std.proofs.Common.{◌≡◌, ℕ, ◌+◌, ◌-◌, ◌<◌, ◌≤◌, Bool, true, false, List, [], ◌∷◌, ◌++◌, map, length, Ok, Err, Result, sym, refl, ap, ◌∙◌, subst, arith}
+use Rattle.std.proofs.Common.{◌≡◌, ℕ, ◌<◌, ◌≤◌, true, false, List, [], ◌∷◌, length, Ok, Err, sym, refl, ap, ◌∙◌, subst, arith}
 use Rattle.refusal.specs.declared.Fault.{Fault}
-use Rattle.refusal.specs.declared.Refusal.{Refusal}
 use Rattle.refusal.specs.declared.Refusal.TheVariants.{TokenNotPermitted}
 use Rattle.refusal.specs.Table as table
 use Rattle.formula.specs.declared.Comparison.{Comparison}
-use Rattle.formula.specs.declared.Join.{Join}
 use Rattle.grammar.specs.declared.table.Word.{Word as WordEntry}
-use Rattle.grammar.specs.declared.table.Number.{Number as NumberEntry}
-use Rattle.grammar.specs.declared.table.Term.{Term as TermEntry}
-use Rattle.grammar.specs.declared.table.Term.TheVariants as entry
 use Rattle.grammar.specs.declared.token.Class.{Class}
 use Rattle.grammar.specs.declared.token.Class.TheVariants as class
 use Rattle.grammar.specs.declared.token.Ahead.{Ahead}
-use Rattle.grammar.specs.declared.token.Read.{Read}
 use Rattle.grammar.specs.declared.token.Fixed.{Fixed}
 use Rattle.grammar.specs.declared.token.Fixed.TheVariants as fixed
-use Rattle.grammar.specs.Syntax.{Word, word, Number, num}
+use Rattle.grammar.specs.Syntax.{num}
 use Rattle.grammar.specs.Grammar.{Tok, at, Tokens, IsName, a_name}
-use Rattle.grammar.specs.Tables.{word_of, number_of}
-use Rattle.grammar.specs.Moves.{Shape, some_name, SomeNumber, some_sign, Is, is_name, is_number, is_sign, is_opening, is_closing, is_semicolon, is_colon, State, expects, Need, Move, asked, Unfinished, Halts, goes_on, halts_token, halts_end, place_of}
+use Rattle.grammar.specs.Tables.{word_of}
+use Rattle.grammar.specs.Moves.{some_name, SomeNumber, some_sign, is_name, is_number, is_sign, is_opening, is_closing, is_semicolon, is_colon, State, expects, Need, Move, asked, Unfinished, Halts, goes_on, halts_token, halts_end, place_of}
 use Rattle.grammar.specs.Parsing.{Left, Says, says_name, says_number, says_sign, says_opening, says_closing, says_semicolon, says_colon, Seen, no_token, a_token, Peeked, Stopped, Came, IsNumber, a_number, IsSign, a_sign, NameRead, NumberRead, SignRead, fixed_class, fixed_shape, FirstIs, first_is, Expected}
 
 pub no : ◌≡◌ {A = ℕ} 0 1 → ⊥

@@ -1,33 +1,23 @@
 -- What reading a line gives, from what its parts give.
-use Rattle.std.proofs.Common.{◌≡◌, ℕ, ◌+◌, ◌-◌, ◌<◌, ◌≤◌, Bool, true, false, List, [], ◌∷◌, ◌++◌, map, length, Ok, Err, Result, sym, refl, ap, ◌∙◌, subst, arith}
+use Rattle.std.proofs.Common.{◌≡◌, ℕ, List, [], ◌∷◌, ◌++◌, map, length, Ok, Err, sym, refl, ap, ◌∙◌, subst, arith}
 use Rattle.refusal.specs.declared.Fault.{Fault}
-use Rattle.refusal.specs.declared.Refusal.{Refusal}
-use Rattle.refusal.specs.declared.Refusal.TheVariants.{TokenNotPermitted}
 use Rattle.refusal.specs.Table as table
-use Rattle.formula.specs.declared.Comparison.{Comparison}
-use Rattle.formula.specs.declared.Join.{Join}
 use Rattle.grammar.specs.declared.table.Word.{Word as WordEntry}
 use Rattle.grammar.specs.declared.table.Number.{Number as NumberEntry}
-use Rattle.grammar.specs.declared.table.Term.{Term as TermEntry}
-use Rattle.grammar.specs.declared.table.Term.TheVariants as entry
 use Rattle.grammar.specs.declared.token.Class.{Class}
 use Rattle.grammar.specs.declared.token.Class.TheVariants as class
 use Rattle.grammar.specs.declared.token.Ahead.{Ahead}
 use Rattle.grammar.specs.declared.token.Read.{Read}
-use Rattle.grammar.specs.declared.token.Fixed.{Fixed}
-use Rattle.grammar.specs.declared.token.Fixed.TheVariants as fixed
-use Rattle.grammar.specs.declared.table.FieldLine.{FieldLine}
 use Rattle.grammar.specs.declared.table.Table.{Table}
 use Rattle.grammar.specs.declared.formula_part.Part.{Part}
 use Rattle.grammar.specs.declared.list.Few.{Few}
 use Rattle.grammar.specs.declared.line.Head.{Head}
-use Rattle.grammar.specs.Syntax.{Word, word, Number, num, Formula, Field, field_line, Rule, rule_line, Mark, mark_line, Sheet, sheet}
-use Rattle.grammar.specs.Grammar.{Tok, name, number, field, rule, mark, opening, semicolon, colon, at, Tokens, Listed, IsName, a_name, any, formula, Reads, IsField, a_field, IsRule, a_rule, IsMark, a_mark}
-use Rattle.grammar.specs.Tables.{word_of, number_of, field_of, Holds}
-use Rattle.grammar.specs.Moves.{Shape, some_name, SomeNumber, opening_sign, semicolon_sign, colon_sign, Is, is_name, is_opening, is_semicolon, is_colon, Line, of_rule, of_mark, Open, whole, allowance, State, expects, fields, rules, ended, names, a_unit, more, field_rest, rule_rest, rule_body, Need, Move, asked, line_rule, line_mark, next_join, rule_end, mark_end, Halts, goes_on, halts_token, halts_end, place_of}
-use Rattle.grammar.specs.Parsing.{Left, Says, says_mark, Seen, no_token, a_token, Peeked, Stopped, Came, IsNumber, a_number, NameRead, NumberRead, NamesRead, Holds4, FirstIs, first_is, Expected, NoJoin, FormulaRead, Grown, Entered, HeadIs, a_head, HeadRead, after_line, BodyIs, a_body, BodyRead, LineRead, Lines, FieldKept, FieldRead, BodyHeld, RuleKept, RuleRead, NotFirst, MarkKept, MarkRead}
-use Rattle.grammar.proofs.Leaves.{no, refused_at, real, seen_as}
-use Rattle.grammar.proofs.Terms.{then-stops}
+use Rattle.grammar.specs.Syntax.{Word, Number, Formula, Field, field_line, Rule, rule_line, Mark, mark_line, sheet}
+use Rattle.grammar.specs.Grammar.{Tok, field, rule, mark, semicolon, at, Tokens, Listed, IsName, a_name, any, formula, Reads, IsField, a_field, IsRule, a_rule, IsMark, a_mark}
+use Rattle.grammar.specs.Tables.{word_of, Holds}
+use Rattle.grammar.specs.Moves.{Shape, opening_sign, semicolon_sign, colon_sign, is_opening, is_semicolon, is_colon, Line, of_rule, of_mark, whole, State, expects, fields, rules, ended, names, a_unit, more, rule_body, Need, Move, asked, line_rule, line_mark, next_join, rule_end, mark_end, Halts, goes_on, halts_token, halts_end, place_of}
+use Rattle.grammar.specs.Parsing.{Left, Says, says_mark, Seen, no_token, a_token, Peeked, Stopped, IsNumber, a_number, NameRead, NumberRead, NamesRead, Holds4, FirstIs, first_is, Expected, NoJoin, FormulaRead, Grown, Entered, HeadIs, a_head, HeadRead, after_line, BodyIs, a_body, BodyRead, Lines, FieldKept, FieldRead, BodyHeld, RuleKept, RuleRead, NotFirst, MarkKept, MarkRead}
+use Rattle.grammar.proofs.Leaves.{refused_at, seen_as}
 use Rattle.grammar.proofs.Keeping.{lines_grown}
 
 -- A sign that is asked for

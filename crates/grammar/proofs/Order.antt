@@ -1,8 +1,7 @@
 -- The places of a sheet rise, since those of its tokens do.
-use Rattle.std.proofs.Common.{◌≡◌, ℕ, ◌+◌, ◌-◌, ◌<◌, ◌≤◌, max, List, [], ◌∷◌, ◌++◌, map, sym, refl, ap, ◌∙◌, subst, append_assoc, append-nil}
-use Rattle.formula.specs.declared.Join.{Join}
-use Rattle.grammar.specs.Syntax.{Word, word, Number, num, Term, constant, bare, raised, lowered, Weights, absent, given, Formula, compared, called, negated, picked, joined, Field, field_line, Rule, rule_line, Mark, mark_line, Sheet, sheet}
-use Rattle.grammar.specs.Grammar.{Placed, at, Tokens, comma, closing, name, number, Parted, last, next, Listed, none, some, IsName, a_name, IsTerm, a_constant, a_bare, a_sum, a_difference, IsWeights, no_weights, weights, Level, any, only, Kind, unit, formula, Fits, strict, Reads, a_comparison, a_call, a_not, a_pick, brackets, alone, a_join, IsField, a_field, IsRule, a_rule, IsMark, a_mark, Many, done, line, IsSheet, a_sheet}
+use Rattle.std.proofs.Common.{ℕ, List, [], ◌∷◌, ◌++◌, map, sym, subst, append_assoc, append-nil}
+use Rattle.grammar.specs.Syntax.{Word, Term, Weights, Formula, Field, Rule, mark_line, Sheet}
+use Rattle.grammar.specs.Grammar.{Tokens, Parted, last, next, Listed, none, some, IsName, a_name, IsTerm, a_constant, a_bare, a_sum, a_difference, IsWeights, no_weights, weights, Kind, Reads, a_comparison, a_call, a_not, a_pick, brackets, alone, a_join, IsField, a_field, IsRule, a_rule, IsMark, a_mark, Many, done, line, IsSheet, a_sheet}
 use Rattle.grammar.specs.Tables.{place_of, term_places, terms_places, weights_places, formula_places, fields_places, rules_places, sheet_places, BeforeAll, Rising}
 use Rattle.grammar.specs.Laws.{token_places}
 

@@ -1,7 +1,6 @@
 -- The tokens that a text is cut into: their places rise, and their numbers are at most 1,023.
-use Rattle.std.proofs.Common.{◌≡◌, ℕ, ◌+◌, ◌<◌, ◌≤◌, Bool, true, false, cond, List, [], ◌∷◌, ◌++◌, length, codes, sym, refl, ap, ◌∙◌, subst, arith}
+use Rattle.std.proofs.Common.{◌≡◌, ℕ, ◌<◌, ◌≤◌, Bool, true, false, cond, List, [], ◌∷◌, ◌++◌, length, codes, ap, arith}
 use Rattle.std.specs.Str.{bytes_eq}
-use Rattle.formula.specs.declared.Comparison.{Comparison}
 use Rattle.formula.specs.declared.Comparison.TheVariants.{Equal, Differ, Less, AtMost, More, AtLeast}
 use Rattle.formula.specs.declared.Join.TheVariants.{And, Or}
 use Rattle.signs.specs.declared.token.Sign.{Sign}
@@ -9,7 +8,7 @@ use Rattle.signs.specs.declared.token.Sign.TheVariants.{Open, Close, Comma, Semi
 use Rattle.signs.specs.Tokens as signs
 use Rattle.signs.specs.Tokens.{TokAt, Spells, a_word, a_number, a_sign, sign_bytes, Within}
 use Rattle.signs.specs.Cutting.{Cut, stop, gap, token}
-use Rattle.grammar.specs.Grammar.{Tok, name, number, field, rule, mark, not, pick, join, Placed, at, Tokens}
+use Rattle.grammar.specs.Grammar.{name, number, field, rule, mark, not, pick, join, Placed, at, Tokens}
 use Rattle.grammar.specs.Tokens as tokens
 use Rattle.grammar.specs.Tables.{BeforeAll, Rising}
 use Rattle.grammar.specs.Laws.{token_places, SmallNumbers}

@@ -1,34 +1,21 @@
 -- What reading the lines of a sheet gives: the sheet that they are, or where they are refused.
-use Rattle.std.proofs.Common.{◌≡◌, ℕ, ◌+◌, ◌-◌, ◌<◌, ◌≤◌, Bool, true, false, List, [], ◌∷◌, ◌++◌, map, length, Some, None, Ok, Err, Result, sym, refl, ap, ◌∙◌, subst, append_assoc, append-nil, arith}
+use Rattle.std.proofs.Common.{◌≡◌, ℕ, ◌≤◌, List, [], ◌∷◌, ◌++◌, length, None, Ok, Err, Result, sym, refl, subst, append_assoc, append-nil, arith}
 use Rattle.refusal.specs.declared.Fault.{Fault}
-use Rattle.refusal.specs.declared.Refusal.{Refusal}
-use Rattle.refusal.specs.declared.Refusal.TheVariants.{TokenNotPermitted}
 use Rattle.refusal.specs.Table as table
-use Rattle.formula.specs.declared.Comparison.{Comparison}
-use Rattle.formula.specs.declared.Join.{Join}
-use Rattle.grammar.specs.declared.table.Word.{Word as WordEntry}
-use Rattle.grammar.specs.declared.table.Number.{Number as NumberEntry}
-use Rattle.grammar.specs.declared.table.Term.{Term as TermEntry}
-use Rattle.grammar.specs.declared.table.Term.TheVariants as entry
 use Rattle.grammar.specs.declared.token.Class.{Class}
 use Rattle.grammar.specs.declared.token.Class.TheVariants as class
 use Rattle.grammar.specs.declared.token.Ahead.{Ahead}
-use Rattle.grammar.specs.declared.token.Read.{Read}
-use Rattle.grammar.specs.declared.token.Fixed.{Fixed}
-use Rattle.grammar.specs.declared.token.Fixed.TheVariants as fixed
-use Rattle.signs.specs.Tokens.{TokAt}
-use Rattle.signs.specs.Cutting.{CutFrom}
 use Rattle.grammar.specs.declared.table.Table.{Table}
-use Rattle.grammar.specs.Syntax.{Field, Rule, Mark, Sheet, sheet}
-use Rattle.grammar.specs.Grammar.{Tok, field, rule, at, Tokens, IsField, IsRule, IsMark, Many, done, line, IsSheet, a_sheet}
+use Rattle.grammar.specs.Syntax.{Field, Rule, sheet}
+use Rattle.grammar.specs.Grammar.{Tok, field, rule, at, Tokens, IsField, IsRule, Many, done, line, IsSheet, a_sheet}
 use Rattle.grammar.specs.Refusal.{Refused}
-use Rattle.grammar.specs.Tables.{LinesAbove, Holds}
+use Rattle.grammar.specs.Tables.{LinesAbove}
 use Rattle.grammar.specs.Tokens.{tokens}
 use Rattle.grammar.specs.Answers.{Parsed}
-use Rattle.grammar.specs.Moves.{field_word, Is, is_field, State, expects, fields, rules, start, field_rest, Need, Move, asked, line_field, no_field, line_rule, Unfinished, Halts, goes_on, halts_token, halts_deep, halts_mixed, halts_end, place_of}
-use Rattle.grammar.specs.Parsing.{Left, left, Says, says_field, says_rule, Seen, no_token, a_token, Peeked, Stopped, Came, all_kept, Lines, LineRead, FieldRead, RuleRead, NotFirst, MarkRead, FirstRead, FieldsSoFar, FieldsRead, RulesSoFar, RulesRead, parsed_to}
+use Rattle.grammar.specs.Moves.{field_word, Is, is_field, State, expects, fields, rules, start, Need, Move, asked, line_field, no_field, line_rule, Halts, goes_on, halts_token, halts_deep, halts_mixed, halts_end}
+use Rattle.grammar.specs.Parsing.{Left, left, Says, says_field, says_rule, Seen, a_token, Peeked, Stopped, Came, all_kept, Lines, FieldRead, RuleRead, NotFirst, MarkRead, FirstRead, FieldsSoFar, FieldsRead, RulesSoFar, RulesRead, parsed_to}
 use Rattle.grammar.proofs.Next.{not_field}
-use Rattle.grammar.proofs.Leaves.{no, refused_at, Stuck, stops, real, seen_as}
+use Rattle.grammar.proofs.Leaves.{no, refused_at, stops, real, seen_as}
 use Rattle.grammar.proofs.Verdict.{refused}
 use Rattle.grammar.proofs.WellRead.{well_read_lem}
 use Rattle.grammar.proofs.Places.{rises, small}

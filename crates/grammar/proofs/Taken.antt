@@ -1,10 +1,10 @@
 -- What the grammar reads is taken token by token.
-use Rattle.std.proofs.Common.{◌≡◌, ℕ, ◌-◌, List, [], ◌∷◌, ◌++◌, sym, refl, ap, subst}
+use Rattle.std.proofs.Common.{◌≡◌, ℕ, ◌-◌, List, [], ◌∷◌, sym, refl, subst}
 use Rattle.formula.specs.declared.Comparison.{Comparison}
 use Rattle.formula.specs.declared.Join.{Join}
-use Rattle.grammar.specs.Syntax.{Word, word, Number, num, Term, constant, bare, raised, lowered, Weights, absent, given, Formula, compared, called, negated, picked, joined, Field, field_line, Rule, rule_line, Mark, mark_line, Sheet, sheet}
-use Rattle.grammar.specs.Grammar.{Tok, name, number, field, rule, mark, not, pick, join, sign, opening, closing, comma, semicolon, colon, plus, minus, at, Tokens, Parted, last, next, Listed, none, some, IsName, a_name, IsTerm, a_constant, a_bare, a_sum, a_difference, IsWeights, no_weights, weights, Level, any, only, Limits, strict, loose, Kind, unit, formula, ReadsBy, a_comparison, a_call, a_not, a_pick, brackets, alone, a_join, IsField, a_field, RuleBy, a_rule, MarkBy, a_mark, Many, done, line, SheetBy, a_sheet}
-use Rattle.grammar.specs.Moves.{Shape, some_name, SomeNumber, some_sign, field_word, opening_sign, semicolon_sign, colon_sign, Is, is_name, is_number, is_sign, is_field, is_opening, is_semicolon, is_colon, Line, of_rule, of_mark, Open, whole, inner, allowance, State, expects, fields, rules, ended, names, more_names, term, summed, terms, more_terms, a_unit, named, more, after_join, numbered, field_rest, start, rule_body, rule_rest, compared_with, Need, free, level, like, Allowed, NoSum, Move, asked, line_field, no_field, line_rule, line_mark, no_names, first_name, names_end, next_name, term_number, term_name, sum_plus, sum_minus, no_sum, no_terms, first_number, first_term, terms_end, next_term, unit_number, unit_name, unit_not, unit_pick, unit_bracket, unit_call, unit_compares, next_join, bracket_end, rule_end, mark_end, join_number, join_name, join_opens, weight_colon, weight_none}
+use Rattle.grammar.specs.Syntax.{Word, Term, Weights, Formula, Field, Rule, Mark, Sheet}
+use Rattle.grammar.specs.Grammar.{Tok, sign, closing, semicolon, at, Tokens, Parted, last, next, Listed, none, some, IsName, a_name, IsTerm, a_constant, a_bare, a_sum, a_difference, IsWeights, no_weights, weights, Level, only, Limits, Kind, unit, formula, ReadsBy, a_comparison, a_call, a_not, a_pick, brackets, alone, a_join, IsField, a_field, RuleBy, a_rule, MarkBy, a_mark, Many, done, line, SheetBy, a_sheet}
+use Rattle.grammar.specs.Moves.{some_name, is_name, is_number, is_sign, is_field, is_opening, is_semicolon, is_colon, of_rule, of_mark, Open, whole, inner, allowance, State, expects, fields, rules, names, more_names, term, summed, terms, more_terms, a_unit, more, after_join, numbered, start, compared_with, NoSum, asked, line_field, no_field, line_rule, line_mark, no_names, first_name, names_end, next_name, term_number, term_name, sum_plus, sum_minus, no_sum, no_terms, first_number, first_term, terms_end, next_term, unit_number, unit_name, unit_not, unit_pick, unit_bracket, unit_call, unit_compares, next_join, bracket_end, rule_end, mark_end, join_number, join_name, join_opens, weight_colon, weight_none}
 use Rattle.grammar.proofs.Accepts.{Accepts, accepted, takes}
 
 -- something follows, and no sum

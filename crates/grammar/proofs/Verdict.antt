@@ -1,14 +1,13 @@
 -- Every list of tokens is a sheet or is refused, with one number at one place, and not both.
-use Rattle.std.proofs.Common.{◌≡◌, ℕ, zero, suc, ◌<◌, ◌⊎◌, List, [], ◌∷◌, ◌++◌, sym, refl, ap, ◌∙◌, subst, inl, inr, append_assoc, append-nil, eq-zero-or-pos, arith}
+use Rattle.std.proofs.Common.{◌≡◌, ℕ, ◌⊎◌, [], ◌∷◌, ◌++◌, sym, refl, ap, ◌∙◌, subst, inl, inr, append_assoc, append-nil, eq-zero-or-pos, arith}
 use Rattle.formula.specs.declared.Join.{Join}
 use Rattle.formula.specs.declared.Join.TheVariants.{And, Or}
-use Rattle.grammar.specs.Syntax.{Sheet}
-use Rattle.grammar.specs.Grammar.{Tok, join, Placed, at, Tokens, Level, any, only, Limits, strict, loose, Fits, SheetBy, IsSheet}
-use Rattle.grammar.specs.Moves.{State, expects, fields, rules, ended, names, more_names, term, summed, terms, more_terms, a_unit, named, more, after_join, numbered, start, Need, free, level, like, Allowed, Move, unit_not, unit_pick, unit_bracket, next_join, no_field, no_sum, unit_compares, join_opens, asked, Unfinished, Halts, goes_on, halts_token, halts_deep, halts_mixed, halts_end, place_of}
+use Rattle.grammar.specs.Grammar.{Tok, join, Placed, at, Tokens, Level, any, only, Limits, strict, Fits, IsSheet}
+use Rattle.grammar.specs.Moves.{State, expects, fields, rules, ended, names, more_names, term, summed, terms, more_terms, a_unit, named, more, after_join, numbered, start, Need, free, level, like, Allowed, Move, unit_not, unit_pick, unit_bracket, next_join, no_field, no_sum, unit_compares, join_opens, Unfinished, Halts, goes_on, halts_token, halts_deep, halts_mixed, halts_end, place_of}
 use Rattle.grammar.specs.Refusal.{Begins, Stands, OpensLevel, by_bracket, by_not, by_pick, Why, not_permitted, too_deep, mixes, Refused, at_token, at_end}
 use Rattle.grammar.specs.Laws.{SomeVerdict, NotBoth, OneRefusal, OneVerdict}
 use Rattle.grammar.proofs.Once.{sheet_once}
-use Rattle.grammar.proofs.Accepts.{Accepts, accepted, takes, Path, here, step, move_once, path_accepts, accepts_after, path_more, loosely, path_loosely}
+use Rattle.grammar.proofs.Accepts.{Accepts, accepted, takes, Path, here, move_once, path_accepts, accepts_after, path_more, path_loosely}
 use Rattle.grammar.proofs.Taken.{sheet_taken}
 use Rattle.grammar.proofs.Means.{sheet_of}
 use Rattle.grammar.proofs.Ways.{way}

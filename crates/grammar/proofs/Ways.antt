@@ -1,10 +1,8 @@
 -- From every state there is a way to the end, within the limits.
-use Rattle.std.proofs.Common.{◌≡◌, ℕ, ◌-◌, List, [], ◌∷◌, ◌++◌, sym, refl, ap, subst}
-use Rattle.formula.specs.declared.Comparison.{Comparison}
+use Rattle.std.proofs.Common.{ℕ, [], ◌∷◌}
 use Rattle.formula.specs.declared.Comparison.TheVariants.{Equal}
-use Rattle.formula.specs.declared.Join.{Join}
-use Rattle.grammar.specs.Grammar.{Tok, name, number, field, rule, mark, not, pick, join, sign, opening, closing, comma, semicolon, colon, plus, minus, at, Tokens, Level, any, only, Limits, strict, loose, Fits}
-use Rattle.grammar.specs.Moves.{Shape, some_name, SomeNumber, some_sign, field_word, opening_sign, closing_sign, semicolon_sign, colon_sign, Is, is_name, is_number, is_sign, is_field, is_opening, is_closing, is_semicolon, is_colon, Line, of_rule, of_mark, Open, whole, inner, allowance, State, expects, fields, rules, ended, names, more_names, term, summed, terms, more_terms, a_unit, named, more, after_join, numbered, field_rest, start, rule_body, rule_rest, compared_with, Need, free, level, like, Allowed, NoSum, Move, asked, line_field, no_field, line_rule, line_mark, no_names, first_name, names_end, next_name, term_number, term_name, sum_plus, sum_minus, no_sum, no_terms, first_number, first_term, terms_end, next_term, unit_number, unit_name, unit_not, unit_pick, unit_bracket, unit_call, unit_compares, next_join, bracket_end, rule_end, mark_end, join_number, join_name, join_opens, weight_colon, weight_none}
+use Rattle.grammar.specs.Grammar.{Tok, at, Tokens, Level, only, Limits}
+use Rattle.grammar.specs.Moves.{Shape, some_name, SomeNumber, some_sign, field_word, opening_sign, closing_sign, semicolon_sign, colon_sign, is_name, is_number, is_sign, is_field, is_opening, is_closing, is_semicolon, is_colon, of_rule, of_mark, Open, whole, inner, State, expects, fields, rules, ended, names, more_names, term, summed, terms, more_terms, a_unit, named, more, after_join, numbered, free, Move, asked, no_field, line_mark, no_names, names_end, term_number, sum_plus, no_terms, terms_end, unit_number, unit_call, bracket_end, rule_end, mark_end, join_number, weight_none}
 use Rattle.grammar.proofs.Accepts.{Accepts, accepted, takes}
 
 -- tokens that are taken to the end

@@ -1,11 +1,11 @@
 -- What every sheet keeps that is read: a field line, small numbers, nesting up to 16, and places that rise.
-use Rattle.std.proofs.Common.{◌≡◌, ℕ, ◌+◌, ◌-◌, ◌<◌, ◌≤◌, max, cond, List, [], ◌∷◌, ◌++◌, map, sym, refl, ap, ◌∙◌, subst, append_assoc, arith}
+use Rattle.std.proofs.Common.{◌≡◌, ℕ, ◌+◌, ◌≤◌, List, [], ◌∷◌, refl, ap, arith}
 use Rattle.formula.specs.declared.Join.{Join}
 use Rattle.formula.specs.declared.Join.TheVariants.{And, Or}
-use Rattle.grammar.specs.Syntax.{Word, word, Number, num, Term, constant, bare, raised, lowered, Weights, absent, given, Formula, compared, called, negated, picked, joined, Field, field_line, Rule, rule_line, Mark, mark_line, Sheet, sheet}
-use Rattle.grammar.specs.Grammar.{Placed, at, Tokens, comma, closing, name, number, Parted, last, next, Listed, none, some, IsName, a_name, IsTerm, a_constant, a_bare, a_sum, a_difference, IsWeights, no_weights, weights, Level, any, only, Kind, unit, formula, Fits, strict, Reads, a_comparison, a_call, a_not, a_pick, brackets, alone, a_join, IsField, a_field, IsRule, a_rule, IsMark, a_mark, Many, done, line, IsSheet, a_sheet}
-use Rattle.grammar.specs.Tables.{differ, bracketed, nested, SmallTerm, SmallTerms, SmallWeights, SmallFormula, SmallFields, ReadFormula, ReadRules, WellRead, sheet_places, Rising}
-use Rattle.grammar.specs.Laws.{token_places, SmallNumbers, EverySheetWellRead}
+use Rattle.grammar.specs.Syntax.{Word, Term, Weights, Formula, compared, called, negated, picked, joined, Field, Rule, Sheet}
+use Rattle.grammar.specs.Grammar.{Placed, at, Tokens, number, Parted, last, next, Listed, none, some, IsName, a_name, IsTerm, a_constant, a_bare, a_sum, a_difference, IsWeights, no_weights, weights, Level, any, only, Kind, unit, formula, Fits, strict, Reads, a_comparison, a_call, a_not, a_pick, brackets, alone, a_join, IsField, a_field, IsRule, a_rule, a_mark, Many, done, line, IsSheet, a_sheet}
+use Rattle.grammar.specs.Tables.{nested, SmallTerm, SmallTerms, SmallWeights, SmallFormula, SmallFields, ReadRules, WellRead, sheet_places, Rising}
+use Rattle.grammar.specs.Laws.{SmallNumbers, EverySheetWellRead}
 use Rattle.grammar.proofs.Order.{in_order}
 
 -- Nesting

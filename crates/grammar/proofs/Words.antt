@@ -1,5 +1,5 @@
 -- What a comparison of bytes and the cutting of a text say of a token's class.
-use Rattle.std.proofs.Common.{◌≡◌, ℕ, ◌+◌, Bool, true, false, cond, List, [], ◌∷◌, ◌++◌, length, take, drop, codes, Decides, sym, refl, ap, ◌∙◌, subst, rules}
+use Rattle.std.proofs.Common.{◌≡◌, ℕ, Bool, cond, List, length, codes, sym, subst}
 use Rattle.std.specs.Str.{bytes_eq}
 use Rattle.formula.specs.declared.Join.TheVariants.{And, Or}
 use Rattle.grammar.specs.declared.token.Class.TheVariants as class

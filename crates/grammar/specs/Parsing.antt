@@ -1,6 +1,6 @@
 -- Only private contracts and proofs cite this file: what the inner functions of the parser answer.
 -- They work with places in the text. `Left text p xs` says which tokens are left from a place on.
-use Rattle.std.specs.Prelude.{◌≡◌, ℕ, ◌+◌, ◌-◌, ◌<◌, ◌≤◌, Bool, true, false, cond, ◌⊎◌, List, [], ◌∷◌, ◌++◌, map, length, take, Some, None, Ok, Err, codes, Result, ◌≢◌}
+use Rattle.std.specs.Prelude.{◌≡◌, ℕ, ◌+◌, ◌<◌, ◌≤◌, cond, ◌⊎◌, List, [], ◌∷◌, ◌++◌, map, length, take, Some, None, Ok, Err, codes, Result, ◌≢◌}
 use Rattle.std.specs.Str.{bytes_eq}
 use Rattle.refusal.specs.declared.Fault.{Fault}
 use Rattle.refusal.specs.Table as table
@@ -29,11 +29,11 @@ use Rattle.grammar.specs.declared.token.Fixed.TheVariants as fixed
 use Rattle.grammar.specs.declared.token.Class.{Class}
 use Rattle.grammar.specs.declared.token.Class.TheVariants as class
 use Rattle.grammar.specs.declared.token.Ahead.{Ahead}
-use Rattle.grammar.specs.Syntax.{Word, word, Number, num, Term, Formula, Field, field_line, Rule, rule_line, Mark, mark_line, Sheet, sheet}
+use Rattle.grammar.specs.Syntax.{Word, word, Number, num, Term, Formula, Field, field_line, Rule, rule_line, Mark, mark_line, sheet}
 use Rattle.grammar.specs.Grammar.{Tok, name, number, field, rule, mark, not, pick, join, sign, opening, closing, comma, semicolon, colon, plus, minus, at, Tokens, Parted, Listed, IsName, IsTerm, IsWeights, Level, any, only, Kind, unit, formula, Reads, IsField, IsRule, IsMark, Many}
 use Rattle.grammar.specs.Tokens.{tokens}
-use Rattle.grammar.specs.Tables.{word_of, number_of, term_of, weights_of, node_at, Entries, size, joins, field_of, LinesAbove, Over, Holds, SomeFields}
-use Rattle.grammar.specs.Moves.{Shape, some_name, SomeNumber, some_sign, opening_sign, closing_sign, semicolon_sign, colon_sign, Is, State, expects, names, more_names, term, summed, terms, more_terms, a_unit, named, more, after_join, Line, of_rule, of_mark, Open, whole, rule_body, allowance, compared_with, fields, rules, ended, start, field_rest, rule_rest, Halts, place_of}
+use Rattle.grammar.specs.Tables.{word_of, number_of, term_of, weights_of, node_at, Entries, size, joins, field_of, LinesAbove, Over, Holds}
+use Rattle.grammar.specs.Moves.{Shape, some_name, SomeNumber, some_sign, opening_sign, closing_sign, semicolon_sign, colon_sign, Is, State, expects, names, term, summed, terms, a_unit, named, more, after_join, Line, of_rule, of_mark, Open, whole, allowance, compared_with, fields, rules, ended, start, field_rest, rule_rest, Halts, place_of}
 
 -- from place p on the text is cut into the tokens xs
 pub data Left (text : List ℕ) (p : ℕ) : Tokens → Type 0 where

@@ -1,7 +1,7 @@
 -- When a list of tokens is refused: where, and with which number.
 -- The tokens before the place can go on to a sheet; with the token that stands there, or with the end, they cannot.
 -- Whether they could if the limits on nesting and on mixed joins were lifted tells the number.
-use Rattle.std.specs.Prelude.{◌≡◌, ℕ, List, [], ◌∷◌, ◌++◌}
+use Rattle.std.specs.Prelude.{◌≡◌, ℕ, ◌∷◌, ◌++◌}
 use Rattle.formula.specs.declared.Join.{Join}
 use Rattle.grammar.specs.Syntax.{Sheet}
 use Rattle.grammar.specs.Grammar.{Tok, not, pick, join, opening, at, Tokens, Limits, strict, loose, SheetBy, IsSheet}

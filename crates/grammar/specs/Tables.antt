@@ -16,10 +16,9 @@ use Rattle.grammar.specs.declared.table.Node.{Node}
 use Rattle.grammar.specs.declared.table.Node.TheVariants.{Compared, Called, Negated, Picked, Joined}
 use Rattle.grammar.specs.declared.table.FieldLine.{FieldLine}
 use Rattle.grammar.specs.declared.table.RuleLine.{RuleLine}
-use Rattle.grammar.specs.declared.table.MarkLine.{MarkLine}
 use Rattle.grammar.specs.declared.table.Table.{Table}
 use Rattle.grammar.specs.Syntax.{Word, word, Number, num, Term, constant, bare, raised, lowered, Weights, absent, given, Formula, compared, called, negated, picked, joined, Field, field_line, Rule, rule_line, Mark, mark_line, Sheet, sheet}
-use Rattle.grammar.specs.Grammar.{Level, any, only, Kind, unit, formula}
+use Rattle.grammar.specs.Grammar.{any, only, Kind, unit, formula}
 
 -- Words, numbers and terms
 

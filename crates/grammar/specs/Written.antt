@@ -1,6 +1,6 @@
 -- A sheet written out as tokens. A sign or a reserved word that no fault points at is given place 0.
-use Rattle.std.specs.Prelude.{ℕ, ◌≤◌, cond, List, [], ◌∷◌}
-use Rattle.grammar.specs.Syntax.{Word, word, num, Term, constant, bare, raised, lowered, Weights, absent, given, Formula, compared, called, negated, picked, joined, Field, field_line, Rule, rule_line, Mark, mark_line, Sheet, sheet}
+use Rattle.std.specs.Prelude.{◌≤◌, cond, List, [], ◌∷◌}
+use Rattle.grammar.specs.Syntax.{Word, word, num, Term, constant, bare, raised, lowered, Weights, absent, given, Formula, compared, called, negated, picked, joined, Field, field_line, Rule, rule_line, mark_line, Sheet, sheet}
 use Rattle.grammar.specs.Grammar.{name, number, field, rule, mark, not, pick, join, sign, opening, closing, comma, semicolon, colon, plus, minus, at, Tokens, any, only, Kind, unit, formula}
 use Rattle.grammar.specs.Tables.{bracketed, nested, SomeFields}
 

@@ -1,7 +1,7 @@
 -- Tests, signs and arguments.
 use Rattle.std.proofs.Common.{◌≡◌, ℕ, zero, suc, Bool, true, false, not, ◌&&◌, ◌≢◌, List, [], ◌∷◌, map, get_or, sym, refl, ap, ◌∙◌}
 use mathlib.Core.Bool.{not-not}
-use borrow.Author.Tests.{not-true, clash, both_ways}
+use borrow.Author.Tests.{not-true, clash}
 use Rattle.formula.specs.Trees.{Name, field, param}
 use Rattle.formula.specs.Comparing.{holds, opposite}
 use Rattle.formula.specs.declared.Comparison.{Comparison}

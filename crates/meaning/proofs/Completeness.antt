@@ -1,5 +1,5 @@
 -- Each mark that reads as the target is found.
-use Rattle.std.proofs.Common.{◌≡◌, ℕ, zero, suc, ◌<◌, Bool, true, false, not, ◌&&◌, ◌≢◌, List, [], ◌∷◌, ◌++◌, map, length, get_or, sym, refl, ap, ◌∙◌, subst, ap₂, arith, eq-eqb}
+use Rattle.std.proofs.Common.{◌≡◌, ℕ, Bool, true, not, List, [], ◌∷◌, ◌++◌, map, length, get_or, sym, refl, ap, ◌∙◌, subst, ap₂, arith, eq-eqb}
 use mathlib.Core.Bool.{Bool-discrete, not-not}
 use Rattle.formula.specs.Trees.{Term, num, bare, moved, Formula, compare, join, Rule}
 use Rattle.formula.specs.Comparing.{holds}
@@ -20,7 +20,7 @@ use Rattle.meaning.proofs.Basics.{and_both, other, holds_aimed}
 use Rattle.meaning.proofs.Values.{values_one, in_index}
 use Rattle.meaning.proofs.Counting.{Counted, counted, counted_part}
 use Rattle.meaning.proofs.Readings.{said_result, said_left, out_not_said}
-use Rattle.meaning.proofs.Soundness.{settles_sound, resolves_sound, passes_sound, leaves_sound, sound}
+use Rattle.meaning.proofs.Soundness.{settles_sound, resolves_sound, passes_sound, sound}
 
 -- a step from S to a set that still holds m
 pub settles_complete :

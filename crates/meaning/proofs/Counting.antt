@@ -1,8 +1,7 @@
 -- Each field of a part of a set of marks has its list of numbers: by going through the box.
-use Rattle.std.proofs.Common.{◌≡◌, ℕ, zero, suc, ◌+◌, ◌<◌, ◌≤◌, Bool, true, false, ◌&&◌, eqb, ◌≢◌, ◌⊎◌, List, [], ◌∷◌, length, get_or, sym, refl, ap, ◌∙◌, subst, inl, inr, not-suc-le-zero, arith, eq-eqb, eqb-true}
+use Rattle.std.proofs.Common.{◌≡◌, ℕ, zero, suc, ◌+◌, ◌<◌, ◌≤◌, true, ◌&&◌, eqb, ◌≢◌, ◌⊎◌, List, [], ◌∷◌, length, get_or, sym, ◌∙◌, subst, inl, inr, not-suc-le-zero, arith, eq-eqb, eqb-true}
 use native.Mathlib.Decide.{ℕ_discrete}
 use mathlib.Core.Bool.{Bool-discrete}
-use borrow.Author.Tests.{clash}
 use Rattle.std.specs.List.{AllByRecursion as All}
 use Rattle.marks.specs.Sets.{Marks, In, Ascending, Values, MarksOf}
 use Rattle.meaning.proofs.Basics.{and_left, and_right, and_both}

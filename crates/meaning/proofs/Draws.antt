@@ -1,14 +1,14 @@
 -- From any numbers there is exactly one draw.
-use Rattle.std.proofs.Common.{◌≡◌, ℕ, zero, suc, ◌+◌, ◌%◌, ◌<◌, Bool, true, false, cond, ltb, ◌⊎◌, List, [], ◌∷◌, ◌++◌, length, sym, refl, ap, ◌∙◌, subst, ap₂, inl, inr, mod-lt, arith}
+use Rattle.std.proofs.Common.{◌≡◌, ℕ, ◌+◌, ◌%◌, ◌<◌, Bool, true, false, cond, ltb, ◌⊎◌, List, [], ◌∷◌, ◌++◌, length, sym, refl, ap, ◌∙◌, subst, ap₂, inl, inr, mod-lt, arith}
 use Rattle.std.proofs.lemmas.List.{length-append}
 use Rattle.formula.specs.Trees.{Sheet}
 use Rattle.marks.specs.Sets.{Marks, MarksOf}
 use Rattle.meaning.specs.Terms.{fields_of}
-use Rattle.meaning.specs.Traces.{Choice, among, branch, width, Entry, took, Trace, Apart, here, there}
+use Rattle.meaning.specs.Traces.{Choice, among, branch, Entry, took, Trace, Apart, here, there}
 use Rattle.meaning.specs.Runs.{Outcome, Run}
 use Rattle.meaning.specs.Picks.{Fair, Told, told_none, told_one, told_past}
 use Rattle.meaning.specs.Draws.{drawn, Takes, takes_none, takes_one, Drawn, ran, dry, Draws, draws}
-use Rattle.meaning.specs.Draws.{runs_dry, OneDraw, DrawsOne}
+use Rattle.meaning.specs.Draws.{runs_dry, DrawsOne}
 use Rattle.meaning.proofs.Runs.{run_part}
 use Rattle.meaning.proofs.Picks.{all_told}
 

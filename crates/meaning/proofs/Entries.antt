@@ -1,6 +1,6 @@
 -- What holds of each choice that a run can make holds of each entry of its trace.
-use Rattle.std.proofs.Common.{◌≡◌, ℕ, zero, suc, ◌<◌, Bool, true, List, [], ◌∷◌, ◌++◌, length}
-use Rattle.formula.specs.Trees.{Term, Formula, Range, Rule, Sheet}
+use Rattle.std.proofs.Common.{◌≡◌, ℕ, ◌<◌, Bool, true, List, [], ◌∷◌, ◌++◌, length}
+use Rattle.formula.specs.Trees.{Term, Formula, Rule, Sheet}
 use Rattle.marks.specs.Sets.{Marks, Values}
 use Rattle.meaning.specs.Terms.{rules_of}
 use Rattle.meaning.specs.Traces.{among, branch, Entry, took, Trace}
@@ -10,7 +10,7 @@ use Rattle.meaning.specs.Matching.{State, Matches, stays_dead, stays_spent, comp
 use Rattle.meaning.specs.Matching.{negates, picks, both_sides, left_side, right_side}
 use Rattle.meaning.specs.Runs.{Outcome, Ends, ended, ends, Finishes, whole, at_dead, at_spent, Run, runs}
 use Rattle.meaning.proofs.Basics.{and_left}
-use Rattle.meaning.proofs.Soundness.{Held, settles_sound, resolves_sound, passes_sound, leaves_sound}
+use Rattle.meaning.proofs.Soundness.{Held, settles_sound, resolves_sound, passes_sound}
 use Rattle.meaning.proofs.Soundness.{lives_sound, sound}
 
 abbrev pub Each : (Entry → Type 0) → Trace → Type 0

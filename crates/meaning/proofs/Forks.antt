@@ -1,5 +1,5 @@
 -- Two matches from one state are the same, or part at one choice and share no mark.
-use Rattle.std.proofs.Common.{◌≡◌, ℕ, zero, suc, ◌<◌, Bool, true, not, ◌&&◌, ◌≢◌, List, [], ◌∷◌, ◌++◌, map, length, get_or, sym, refl, ap, ◌∙◌, subst, ap₂, subst₂, arith, eqb-true}
+use Rattle.std.proofs.Common.{◌≡◌, ℕ, ◌<◌, Bool, true, not, ◌≢◌, List, [], ◌∷◌, ◌++◌, length, get_or, sym, refl, ap, ◌∙◌, subst, ap₂, subst₂, arith, eqb-true}
 use native.Mathlib.Decide.{ℕ_discrete}
 use mathlib.Core.Path.{subst₃}
 use Rattle.formula.specs.Trees.{Term, Formula, Rule}
@@ -15,7 +15,7 @@ use Rattle.meaning.specs.Matching.{both_sides, left_side, right_side}
 use Rattle.meaning.proofs.Basics.{and_left, and_right, not_self}
 use Rattle.meaning.proofs.Values.{values_one, same_index}
 use Rattle.meaning.proofs.Readings.{one_result}
-use Rattle.meaning.proofs.Soundness.{Held, fuel_of, settles_sound, resolves_sound, passes_sound}
+use Rattle.meaning.proofs.Soundness.{Held, resolves_sound, passes_sound}
 use Rattle.meaning.proofs.Soundness.{leaves_sound, lives_sound, sound}
 
 pub data Fork {A : Type 0} (held : A → List ℕ → Type 0) (t : Trace) (a : A) (u : Trace) (b : A) : Type 0 where

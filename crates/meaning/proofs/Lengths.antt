@@ -2,7 +2,7 @@
 use Rattle.std.proofs.Common.{◌≡◌, ℕ, zero, suc, ◌+◌, ◌*◌, ◌<◌, ◌≤◌, Bool, true, false, cond, ◌&&◌, ◌||◌, eqb, ◌≢◌, List, [], ◌∷◌, ◌++◌, length, get_or, sym, refl, ap, ◌∙◌, subst, inl, inr, not-suc-le-zero, mul-suc, mul-add, arith, eq-eqb, eqb-true}
 use native.Mathlib.Decide.{ℕ_discrete, dec_lt}
 use borrow.Author.Tests.{apart_eqb, clash}
-use Rattle.formula.specs.Trees.{Term, Formula, Range, Rule, Sheet}
+use Rattle.formula.specs.Trees.{Term, Formula, Rule, Sheet}
 use Rattle.marks.specs.Sets.{Marks, Values}
 use Rattle.meaning.specs.Terms.{fields_of, body, rules_of}
 use Rattle.meaning.specs.Traces.{among, branch, took, Trace}
@@ -15,7 +15,7 @@ use Rattle.meaning.specs.Runs.{Outcome, Ends, ended, ends, Finishes, whole, at_d
 use Rattle.meaning.specs.Lengths.{joins, TracesShort, FewJoins}
 use Rattle.meaning.proofs.Basics.{and_left, and_right}
 use Rattle.meaning.proofs.Soundness.{Held, fuel_of, settles_sound, resolves_sound, passes_sound}
-use Rattle.meaning.proofs.Soundness.{leaves_sound, lives_sound, sound}
+use Rattle.meaning.proofs.Soundness.{lives_sound, sound}
 
 -- branches of joins, and fields
 forks : Trace → ℕ

@@ -1,5 +1,5 @@
 -- The numbers of the fields where the marks are listed: what antt can compute.
-use Rattle.std.proofs.Common.{◌≡◌, ℕ, zero, suc, ◌<◌, ◌≤◌, Bool, true, false, cond, ltb, ◌≢◌, ◌⊎◌, List, [], ◌∷◌, length, get_or, sym, refl, ap, ◌∙◌, subst, inl, inr, arith, ltb-false, ltb-true}
+use Rattle.std.proofs.Common.{◌≡◌, ℕ, ◌<◌, Bool, true, false, cond, ltb, ◌≢◌, ◌⊎◌, List, [], ◌∷◌, get_or, sym, refl, ap, ◌∙◌, inl, inr, arith, ltb-false, ltb-true}
 use borrow.Author.Tests.{clash}
 use Rattle.marks.specs.Sets.{Marks, In, Ascending, Values}
 use Rattle.meaning.proofs.Counting.{Counted}

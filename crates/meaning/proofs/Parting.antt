@@ -1,5 +1,5 @@
 -- The traces of one match form a tree, and a mark stands at one leaf of it.
-use Rattle.std.proofs.Common.{◌≡◌, ℕ, zero, suc, ◌<◌, Bool, ◌⊎◌, List, [], ◌∷◌, ◌++◌, refl, inl, inr, arith}
+use Rattle.std.proofs.Common.{◌≡◌, ℕ, Bool, ◌⊎◌, List, ◌++◌, inl, inr, arith}
 use Rattle.formula.specs.Trees.{Term, Formula, Rule}
 use Rattle.marks.specs.Sets.{Marks}
 use Rattle.meaning.specs.Traces.{Trace, Within, none, one, Apart}

@@ -1,6 +1,6 @@
 -- For a loop over pending goals: each step of the loop, as a step of the relation. Read from the end: what
 -- solves the goals after the step solves those before it.
-use Rattle.std.proofs.Common.{◌≡◌, ℕ, zero, suc, ◌+◌, ◌*◌, ◌<◌, ◌≤◌, Bool, true, not, ◌≢◌, List, [], ◌∷◌, ◌++◌, length, sym, refl, ap, ◌∙◌, subst, append_assoc, append-nil, mul-suc, arith}
+use Rattle.std.proofs.Common.{◌≡◌, ℕ, zero, suc, ◌+◌, ◌*◌, ◌≤◌, Bool, not, ◌≢◌, List, [], ◌∷◌, ◌++◌, length, sym, subst, append_assoc, append-nil, mul-suc, arith}
 use Rattle.formula.specs.Trees.{Name, Term, Formula, compare, call, negate, pick, join, Rule}
 use Rattle.formula.specs.declared.Comparison.{Comparison}
 use Rattle.formula.specs.declared.Join.{Join}

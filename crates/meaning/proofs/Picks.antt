@@ -1,8 +1,7 @@
 -- Whatever the picks, there is a run.
-use Rattle.std.proofs.Common.{◌≡◌, ℕ, zero, suc, ◌<◌, ◌≤◌, Bool, true, false, not, ◌≢◌, ◌⊎◌, List, [], ◌∷◌, ◌++◌, length, get_or, sym, refl, ap, ◌∙◌, subst, inl, inr, not-suc-le-zero, arith}
-use native.Mathlib.Decide.{ℕ_discrete}
+use Rattle.std.proofs.Common.{◌≡◌, ℕ, zero, suc, ◌<◌, ◌≤◌, Bool, true, not, ◌≢◌, List, [], ◌∷◌, ◌++◌, length, sym, refl, ◌∙◌, subst, inl, not-suc-le-zero, arith}
 use mathlib.Core.Bool.{Bool-discrete}
-use Rattle.formula.specs.Trees.{Term, num, bare, moved, Formula, compare, call, negate, pick, join, Range}
+use Rattle.formula.specs.Trees.{Term, num, bare, moved, Formula, compare, call, negate, pick, join}
 use Rattle.formula.specs.Trees.{Rule, Sheet}
 use Rattle.formula.specs.declared.Comparison.{Comparison}
 use Rattle.formula.specs.declared.Join.{Join}

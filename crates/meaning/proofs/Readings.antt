@@ -9,7 +9,7 @@ use Rattle.meaning.specs.Reading.{Answer, said, ran_out, left, turned, Reads, te
 use Rattle.meaning.specs.Reading.{turns, picked, left_out, left_only, right_too, calls_made, ranged}
 use Rattle.meaning.specs.Reading.{Verdict, allowed, not_allowed, spent, verdict, Checks, out_of_range}
 use Rattle.meaning.specs.Reading.{in_range, Allowed}
-use Rattle.meaning.specs.ReadingLaws.{FormulasRead, CallsSpend, Checking, Checkings}
+use Rattle.meaning.specs.ReadingLaws.{FormulasRead, CallsSpend, Checkings}
 
 -- Answers
 

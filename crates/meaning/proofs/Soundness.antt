@@ -1,5 +1,5 @@
 -- A live match keeps only marks that read as the target.
-use Rattle.std.proofs.Common.{◌≡◌, ℕ, zero, suc, Bool, true, false, not, ◌&&◌, eqb, List, [], ◌∷◌, ◌++◌, map, get_or, sym, refl, ap, ◌∙◌, subst, ap₂, subst₂, eqb-true}
+use Rattle.std.proofs.Common.{◌≡◌, ℕ, Bool, true, List, ◌∷◌, map, get_or, sym, refl, ap, ◌∙◌, subst, ap₂, subst₂, eqb-true}
 use mathlib.Core.Bool.{not-not}
 use Rattle.formula.specs.Trees.{Term, Formula, compare, negate, Rule}
 use Rattle.formula.specs.Comparing.{holds}

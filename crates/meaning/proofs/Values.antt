@@ -1,5 +1,5 @@
 -- The numbers that a field takes are one list.
-use Rattle.std.proofs.Common.{◌≡◌, ℕ, zero, suc, ◌<◌, true, ◌≢◌, ◌⊎◌, List, [], ◌∷◌, length, get_or, sym, refl, ap, ◌∙◌, subst, ap₂, inl, inr, le_of_suc-le-suc, not-suc-le-zero, arith}
+use Rattle.std.proofs.Common.{◌≡◌, ℕ, zero, suc, ◌<◌, List, [], ◌∷◌, length, get_or, sym, refl, ap, subst, ap₂, inl, inr, le_of_suc-le-suc, not-suc-le-zero, arith}
 use native.Mathlib.Decide.{ℕ_discrete}
 use Rattle.marks.specs.Sets.{Marks, In, Ascending, Values}
 

@@ -1,18 +1,17 @@
 -- The first fault of a sheet is the first fault of the first line at fault, or 11 at the first line that is not kept.
-use Rattle.std.proofs.Common.{◌≡◌, ℕ, zero, suc, ◌+◌, ◌<◌, ◌≤◌, ◌⊎◌, List, [], ◌∷◌, ◌++◌, map, length, take, Some, None, Option, sym, refl, ap, ◌∙◌, subst, inl, inr, ⊎_elim, append-nil, arith}
+use Rattle.std.proofs.Common.{◌≡◌, ℕ, ◌+◌, ◌<◌, ◌≤◌, ◌⊎◌, List, [], ◌∷◌, ◌++◌, map, length, take, Some, None, Option, sym, refl, ap, ◌∙◌, subst, inl, inr, ⊎_elim, append-nil, arith}
 use lib.Seq.{take-append-le}
 use Rattle.std.proofs.str.Laws.{order}
 use Rattle.std.proofs.lemmas.List.{take_at}
 use Rattle.refusal.specs.declared.Fault.{Fault}
 use Rattle.refusal.specs.declared.Refusal.TheVariants.{TooMany}
-use Rattle.refusal.specs.Table.{number}
 use Rattle.grammar.specs.declared.table.Table.{Table}
 use Rattle.grammar.specs.Syntax.{Word, Number, num, Formula, Field, field_line, Rule, rule_line, Mark, mark_line, Sheet, sheet}
 use Rattle.grammar.specs.Tables.{node_at, fields_of, rules_of, Entries, Rules, LinesAbove, Holds, whole, over_field, over_rule, over_mark, Over, WellRead, Rising, fields_places, rules_places, sheet_places, formula_places, place_of}
 use Rattle.sheet.specs.declared.node.Node.{Node}
 use Rattle.names.specs.Lists.{Stands, here, there, In, this, that}
 use Rattle.names.specs.Faults.{sizes, FieldFault, field_taken, wrong_range, many_fields, RuleFault, rule_taken, param_taken, rule_formula, many_rules, rule_passes, MarkFault, mark_formula, mark_passes, Faulty, in_field, in_rule, in_mark, First, NoLater}
-use Rattle.names.specs.Looking.{Best, FieldsFault, RulesFault, FieldsSettled, RulesSettled, MarkSettled, RulesNumbered, EntriesNumbered, AllNumbered, LinesSettled, SameOutside, Numbered, rule_params}
+use Rattle.names.specs.Looking.{Best, FieldsFault, RulesFault, FieldsSettled, RulesSettled, MarkSettled, RulesNumbered, AllNumbered, LinesSettled, SameOutside, Numbered, rule_params}
 use Rattle.names.proofs.Search.{stands_in}
 use Rattle.names.proofs.Places.{in_left, in_right, in_map, stands_length, stands_after}
 use Rattle.names.proofs.Ordered.{before_in}

@@ -1,9 +1,9 @@
 -- A sheet has a first fault, or none.
-use Rattle.std.proofs.Common.{◌≡◌, ℕ, suc, ◌+◌, ◌<◌, ◌≤◌, ◌⊎◌, List, [], ◌∷◌, ◌++◌, map, length, take, sym, refl, ap, ◌∙◌, subst, inl, inr, ⊎_elim, arith}
+use Rattle.std.proofs.Common.{◌≡◌, ℕ, ◌+◌, ◌<◌, ◌≤◌, ◌⊎◌, List, [], ◌∷◌, ◌++◌, map, length, take, sym, refl, subst, inl, inr, ⊎_elim}
 use Rattle.formula.specs.Trees as tree
-use Rattle.grammar.specs.Syntax.{Word, word, Number, num, Formula, Field, field_line, Rule, rule_line, Mark, mark_line, Sheet, sheet}
+use Rattle.grammar.specs.Syntax.{Word, num, Formula, Field, field_line, Rule, rule_line, Mark, mark_line, Sheet, sheet}
 use Rattle.grammar.specs.Tables.{place_of, size, joins, Over, many_params, many_joins, many_formulas}
-use Rattle.names.specs.Lists.{Stands, In}
+use Rattle.names.specs.Lists.{Stands}
 use Rattle.names.specs.Names.{spelling, Means, a_field, a_param, Calls, the_rule}
 use Rattle.names.specs.Faults.{Use, term, call, weight, uses, UseFault, unknown_name, unknown_rule, wrong_terms, zero_weight, FormulaFault, field_name, rule_name, all_names, Taken, sizes, FieldFault, field_taken, wrong_range, many_fields, RuleFault, rule_taken, param_taken, rule_formula, many_rules, rule_passes, MarkFault, mark_formula, mark_passes, Faulty, in_field, in_rule, in_mark}
 use Rattle.names.proofs.Search.{Among, Dec, Search, same_number, same_word, both, below, upto, negate, search_dec, search_iff, search_or, search_among, search_in, find, stands_in, in_stands}

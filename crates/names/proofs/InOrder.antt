@@ -1,9 +1,9 @@
 -- Lines in the order of the text: what stands in a line comes before what stands in a later one.
-use Rattle.std.proofs.Common.{◌≡◌, ℕ, suc, ◌<◌, ◌≤◌, ◌⊎◌, List, [], ◌∷◌, ◌++◌, map, sym, refl, ap, ◌∙◌, subst, inl, inr, ⊎_elim, append_assoc, arith}
-use Rattle.grammar.specs.Syntax.{Word, Number, num, Formula, Field, field_line, Rule, rule_line, Mark, mark_line}
+use Rattle.std.proofs.Common.{◌≡◌, ℕ, ◌<◌, List, [], ◌∷◌, ◌++◌, map, sym, refl, ap, ◌∙◌, subst, append_assoc, arith}
+use Rattle.grammar.specs.Syntax.{Word, num, Formula, Field, field_line, Rule, rule_line, Mark, mark_line}
 use Rattle.grammar.specs.Tables.{place_of, formula_places, fields_places, rules_places, Rising}
 use Rattle.names.specs.Lists.{Stands, here, there, In, this, that}
-use Rattle.names.specs.Faults.{Use, uses, UseFault, FormulaFault, FieldFault, field_taken, wrong_range, many_fields, RuleFault, rule_taken, param_taken, rule_formula, many_rules, rule_passes, MarkFault, mark_formula, mark_passes}
+use Rattle.names.specs.Faults.{uses, FormulaFault, FieldFault, field_taken, wrong_range, many_fields, RuleFault, rule_taken, param_taken, rule_formula, many_rules, rule_passes, MarkFault, mark_formula, mark_passes}
 use Rattle.names.specs.Looking.{use_place}
 use Rattle.names.proofs.Search.{stands_in}
 use Rattle.names.proofs.Places.{in_left, in_right, in_map}

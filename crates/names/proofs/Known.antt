@@ -1,8 +1,7 @@
 -- The entries of a numbered line keep the rules of a sheet.
-use Rattle.std.proofs.Common.{◌≡◌, ℕ, zero, suc, ◌+◌, ◌<◌, ◌≤◌, Bool, true, false, ◌&&◌, eqb, ltb, leb, ◌⊎◌, List, [], ◌∷◌, ◌++◌, map, length, get_or, take, sym, refl, ap, ◌∙◌, subst, inl, inr, ⊎_elim, arith}
+use Rattle.std.proofs.Common.{◌≡◌, ℕ, zero, suc, ◌<◌, ◌≤◌, Bool, true, ◌&&◌, List, [], ◌∷◌, ◌++◌, map, length, get_or, take, sym, refl, ap, subst, ⊎_elim, arith}
 use Rattle.std.proofs.str.Laws.{order}
 use Rattle.std.proofs.lemmas.Bool.Decides.{nat_tests}
-use Rattle.std.proofs.lemmas.List.{take_all}
 use Rattle.formula.specs.declared.Comparison.{Comparison}
 use Rattle.formula.specs.declared.Join.{Join}
 use Rattle.formula.specs.Trees as tree
@@ -11,7 +10,7 @@ use Rattle.grammar.specs.declared.table.Term.{Term as TermEntry}
 use Rattle.grammar.specs.declared.table.Weights.{Weights as WeightsEntry}
 use Rattle.grammar.specs.declared.table.Node.{Node as NodeEntry}
 use Rattle.grammar.specs.declared.table.Node.TheVariants.{Compared, Called, Negated, Picked, Joined}
-use Rattle.grammar.specs.Syntax.{Word, Number, num, Term, Weights, absent, given, Formula, compared, called, negated, picked, joined, Field, Rule}
+use Rattle.grammar.specs.Syntax.{Word, num, Term, Weights, absent, given, Formula, Field, Rule}
 use Rattle.grammar.specs.Tables.{word_of, term_of, weights_of, node_at, Entries, a_comparison, a_call, a_not, a_pick, a_join, SmallTerm, SmallTerms, SmallWeights, SmallFormula}
 use Rattle.sheet.specs.declared.node.Name.{Name}
 use Rattle.sheet.specs.declared.node.Name.TheVariants.{Field as FieldName, Param}
@@ -20,12 +19,11 @@ use Rattle.sheet.specs.declared.node.Shift.TheVariants.{Up, Down}
 use Rattle.sheet.specs.declared.node.Term.{Term as SheetTerm}
 use Rattle.sheet.specs.declared.node.Term.TheVariants.{Number as NumberTerm, Bare, Moved}
 use Rattle.sheet.specs.declared.node.Node.{Node}
-use Rattle.sheet.specs.declared.node.Node.TheVariants.{Compare, Call, Not, Pick, Join as JoinNode}
 use Rattle.sheet.specs.declared.node.Line.{Line}
 use Rattle.sheet.specs.Table as table
 use Rattle.sheet.specs.Keeping.{known_name, known_shift, known_term, known_terms, entry_kept}
 use Rattle.sheet.specs.Sheets.{KnownName, KnownShift, KnownTerm}
-use Rattle.names.specs.Lists.{Stands, In, this, that, Each, end, item}
+use Rattle.names.specs.Lists.{In, this, that, Each, item}
 use Rattle.names.specs.Names.{Means, a_field, a_param, Calls, TermIs, constant_is, bare_is, raised_is, lowered_is, left_weight, right_weight}
 use Rattle.names.specs.Faults.{Use, weight, weight_uses, uses}
 use Rattle.names.specs.Looking.{Numbered, numbered_compared, numbered_called, numbered_negated, numbered_picked, numbered_joined}

@@ -1,5 +1,5 @@
 -- What a loop over lines has found.
-use Rattle.std.proofs.Common.{◌≡◌, ℕ, zero, suc, ◌+◌, ◌-◌, ◌<◌, ◌≤◌, Bool, true, false, ◌⊎◌, List, [], ◌∷◌, map, length, get_or, take, drop, Decides, sym, refl, ap, ◌∙◌, subst, inl, inr, ⊎_elim, arith}
+use Rattle.std.proofs.Common.{◌≡◌, ℕ, zero, suc, ◌+◌, ◌<◌, ◌≤◌, Bool, true, false, ◌⊎◌, List, [], ◌∷◌, length, get_or, take, Decides, sym, refl, subst, ⊎_elim, arith}
 use Rattle.std.proofs.str.Laws.{order}
 use Rattle.grammar.specs.declared.table.RuleLine.{RuleLine}
 use Rattle.names.specs.Lists.{Stands, here, there}

@@ -1,22 +1,20 @@
 -- The loops over field lines and rule lines.
-use Rattle.std.proofs.Common.{◌≡◌, ℕ, zero, suc, ◌+◌, ◌<◌, ◌≤◌, ◌⊎◌, List, [], ◌∷◌, ◌++◌, map, length, get_or, take, Some, None, Option, sym, refl, ap, ◌∙◌, subst, inl, inr, ⊎_elim, arith, take-take}
+use Rattle.std.proofs.Common.{◌≡◌, ℕ, zero, suc, ◌+◌, ◌<◌, ◌≤◌, ◌⊎◌, List, [], ◌∷◌, ◌++◌, map, length, take, Some, None, Option, sym, refl, ap, ◌∙◌, subst, inl, ⊎_elim, arith, take-take}
 use Rattle.std.proofs.str.Laws.{order}
 use Rattle.std.proofs.lemmas.List.{take-map}
 use Rattle.refusal.specs.declared.Fault.{Fault}
-use Rattle.refusal.specs.Table.{number}
-use Rattle.grammar.specs.declared.table.FieldLine.{FieldLine}
 use Rattle.grammar.specs.declared.table.RuleLine.{RuleLine}
 use Rattle.grammar.specs.declared.table.Node.{Node as NodeEntry}
 use Rattle.grammar.specs.declared.table.Table.{Table}
-use Rattle.grammar.specs.Syntax.{Word, num, Formula, Field, field_line, Rule, rule_line}
-use Rattle.grammar.specs.Tables.{field_of, fields_of, rules_of, node_at, Entries, Rules, no_rules, a_rule, Over, many_params, many_joins, many_formulas, size, Rising, fields_places, rules_places, place_of}
+use Rattle.grammar.specs.Syntax.{Word, Formula, Field, Rule, rule_line}
+use Rattle.grammar.specs.Tables.{field_of, fields_of, rules_of, node_at, Entries, Rules, no_rules, a_rule, Over, many_params, size, Rising, fields_places, rules_places}
 use Rattle.sheet.specs.declared.node.Node.{Node}
-use Rattle.names.specs.Lists.{Stands, here, there, In, this, that, Each, end, item}
-use Rattle.names.specs.Faults.{sizes, FieldFault, RuleFault, First, NoLater}
-use Rattle.names.specs.Looking.{Best, FieldSettled, FieldsFault, RulesFault, FieldsSettled, RulesSettled, RulesNumbered, EntriesNumbered, RuleSettled, IsRuleLine, IsHead, Heads, SameOutside, field_at, rule_at, rule_params, rule_body, rule_places, Numbered}
-use Rattle.names.proofs.Lookups.{stands_at, stands_is, no_rule_line}
+use Rattle.names.specs.Lists.{Stands, here, there, end, item}
+use Rattle.names.specs.Faults.{sizes, FieldFault, RuleFault}
+use Rattle.names.specs.Looking.{Best, FieldSettled, FieldsSettled, RulesSettled, RulesNumbered, EntriesNumbered, RuleSettled, IsRuleLine, IsHead, Heads, SameOutside, field_at, rule_at, rule_params, rule_body, rule_places, Numbered}
+use Rattle.names.proofs.Lookups.{stands_at, no_rule_line}
 use Rattle.names.proofs.Places.{stands_length}
-use Rattle.names.proofs.Numbering.{stands_map, map_stands}
+use Rattle.names.proofs.Numbering.{stands_map}
 use Rattle.names.proofs.Parts.{entries_size}
 use Rattle.names.proofs.InOrder.{flat, field_own, rule_own, fields_flat, rules_flat, flat_own, flat_order, field_fault_in, rule_fault_in}
 

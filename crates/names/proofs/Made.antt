@@ -1,14 +1,12 @@
 -- The parts that are made of a table without fault keep the rules of a sheet, and are what the sheet comes to.
-use Rattle.std.proofs.Common.{◌≡◌, ℕ, zero, suc, ◌+◌, ◌<◌, ◌≤◌, true, ◌⊎◌, List, [], ◌∷◌, ◌++◌, map, length, get_or, take, Some, None, sym, refl, ap, ◌∙◌, subst, inl, inr, ⊎_elim, append_assoc, arith}
+use Rattle.std.proofs.Common.{◌≡◌, ℕ, zero, suc, ◌+◌, ◌<◌, ◌≤◌, true, List, [], ◌∷◌, ◌++◌, map, length, take, Some, None, sym, refl, ap, ◌∙◌, subst, ⊎_elim, append_assoc, arith}
 use Rattle.std.proofs.str.Laws.{order}
 use Rattle.std.proofs.lemmas.List.{length-map, length-take-le}
 use Rattle.formula.specs.Trees as tree
-use Rattle.grammar.specs.declared.table.FieldLine.{FieldLine}
-use Rattle.grammar.specs.declared.table.RuleLine.{RuleLine}
 use Rattle.grammar.specs.declared.table.Table.{Table}
 use Rattle.grammar.specs.Grammar.{any, formula}
-use Rattle.grammar.specs.Syntax.{Word, Number, num, Formula, Field, field_line, Rule, rule_line, Mark, mark_line, Sheet, sheet}
-use Rattle.grammar.specs.Tables.{field_of, fields_of, rules_of, node_at, Entries, Rules, LinesAbove, Holds, whole, over_field, over_rule, over_mark, Over, many_joins, many_formulas, size, joins, nested, SomeFields, SmallFields, SmallFormula, ReadFormula, ReadRules, WellRead}
+use Rattle.grammar.specs.Syntax.{Word, num, Formula, Field, field_line, Rule, rule_line, mark_line, Sheet, sheet}
+use Rattle.grammar.specs.Tables.{field_of, fields_of, Entries, LinesAbove, Holds, whole, over_field, over_rule, over_mark, Over, many_joins, many_formulas, size, joins, nested, SomeFields, SmallFields, ReadFormula, ReadRules, WellRead}
 use Rattle.sheet.specs.declared.node.Node.{Node}
 use Rattle.sheet.specs.declared.node.Range.{Range}
 use Rattle.sheet.specs.declared.node.Line.{Line}
@@ -20,10 +18,10 @@ use Rattle.sheet.specs.Sheets.{range_of, rule_of, tree_of_parts}
 use Rattle.sheet.proofs.Holding.{held_within}
 use Rattle.names.specs.Lists.{Stands, here, there, In, Each, end, item}
 use Rattle.names.specs.Names.{Calls, the_rule, FormulaIs, FieldIs, field_is, RulesAre, no_rules, one_rule, Resolves, resolved}
-use Rattle.names.specs.Faults.{weight, uses, zero_weight, FormulaFault, wrong_range, rule_formula, mark_formula, Faulty, in_field, in_rule, in_mark, sizes, Named}
+use Rattle.names.specs.Faults.{weight, uses, zero_weight, wrong_range, rule_formula, mark_formula, Faulty, in_field, in_rule, in_mark, sizes, Named}
 use Rattle.names.specs.Looking.{IsHead, AllNumbered, LinesSettled, RangesOf, LinesOf, field_at, rule_at, rule_params, rule_body}
 use Rattle.names.proofs.Places.{stands_length, stands_upto}
-use Rattle.names.proofs.Lookups.{stands_at, stands_is, stands_below, no_rule_line}
+use Rattle.names.proofs.Lookups.{stands_at, stands_is, no_rule_line}
 use Rattle.names.proofs.Numbering.{map_stands}
 use Rattle.names.proofs.Loops.{LineOf, line_of, rules_long, rules_end, length_take_all}
 use Rattle.names.proofs.Parts.{entries_size, size_some}

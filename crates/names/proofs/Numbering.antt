@@ -1,5 +1,5 @@
 -- What is settled of names, calls and terms.
-use Rattle.std.proofs.Common.{◌≡◌, ℕ, suc, ◌+◌, ◌<◌, ◌≤◌, ◌⊎◌, List, [], ◌∷◌, ◌++◌, map, length, take, Ok, Err, Result, sym, refl, ap, ◌∙◌, subst, inl, inr, ⊎_elim, arith}
+use Rattle.std.proofs.Common.{◌≡◌, ℕ, ◌≤◌, List, [], ◌∷◌, map, length, take, Ok, Err, sym, refl, ap, ◌∙◌, subst, inr, ⊎_elim, arith}
 use Rattle.formula.specs.Trees as tree
 use Rattle.refusal.specs.declared.Fault.{Fault}
 use Rattle.refusal.specs.Table.{number}
@@ -8,16 +8,16 @@ use Rattle.grammar.specs.declared.table.Term.{Term as TermEntry}
 use Rattle.grammar.specs.declared.table.FieldLine.{FieldLine}
 use Rattle.grammar.specs.declared.table.RuleLine.{RuleLine}
 use Rattle.grammar.specs.declared.table.Table.{Table}
-use Rattle.grammar.specs.Syntax.{Word, word, Number, num, Term, Formula, Field, field_line, Rule, rule_line}
-use Rattle.grammar.specs.Tables.{word_of, term_of, field_of, params_of, fields_of, place_of}
+use Rattle.grammar.specs.Syntax.{Word, Field, Rule, rule_line}
+use Rattle.grammar.specs.Tables.{word_of, term_of, field_of, fields_of, place_of}
 use Rattle.sheet.specs.declared.node.Name.{Name}
 use Rattle.sheet.specs.declared.node.Term.{Term as SheetTerm}
 use Rattle.sheet.specs.Table.{name_of as number_name, term_of as number_term}
 use Rattle.sheet.specs.declared.node.Name.TheVariants.{Field as FieldName, Param}
 use Rattle.names.specs.Lists.{Stands, here, there, In, this, that, Each, end, item}
 use Rattle.names.specs.Names.{spelling, Means, a_field, a_param, Calls, the_rule, TermIs}
-use Rattle.names.specs.Faults.{Use, term, call, weight, term_uses, UseFault, unknown_name, unknown_rule, wrong_terms, First, NoLater}
-use Rattle.names.specs.Looking.{Alike, SomeOf, names_of, IsHead, Heads, UsesFault, Settles, NameSettled, CallSettled, TermSettled}
+use Rattle.names.specs.Faults.{Use, term, call, term_uses, UseFault, unknown_name, unknown_rule, wrong_terms, First, NoLater}
+use Rattle.names.specs.Looking.{Alike, SomeOf, names_of, IsHead, Heads, UsesFault, NameSettled, CallSettled, TermSettled}
 use Rattle.names.proofs.Search.{same_number}
 
 pub stands_map : {A B : Type 0} {xs : List A} {i : ℕ} {x : A} (g : A → B) → Stands A xs i x → Stands B (map g xs) i (g x)

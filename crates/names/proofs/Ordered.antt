@@ -1,9 +1,9 @@
 -- Faults of uses that stand in the order of the text: the first in the list comes first.
-use Rattle.std.proofs.Common.{◌≡◌, ℕ, ◌<◌, ◌≤◌, ◌⊎◌, List, [], ◌∷◌, ◌++◌, map, sym, refl, ap, ◌∙◌, subst, inl, inr, ⊎_elim, arith}
-use Rattle.grammar.specs.Syntax.{Word, Number, num, Field, Rule}
+use Rattle.std.proofs.Common.{◌≡◌, ℕ, ◌<◌, ◌⊎◌, List, [], ◌∷◌, ◌++◌, map, refl, ap, subst, inl, inr, ⊎_elim, arith}
+use Rattle.grammar.specs.Syntax.{Word, num, Field, Rule}
 use Rattle.grammar.specs.Tables.{BeforeAll, Rising}
 use Rattle.names.specs.Lists.{In, this, that}
-use Rattle.names.specs.Faults.{Use, term, call, weight, UseFault, unknown_name, unknown_rule, wrong_terms, zero_weight, First, NoLater}
+use Rattle.names.specs.Faults.{Use, term, call, weight, UseFault, unknown_name, unknown_rule, wrong_terms, zero_weight, First}
 use Rattle.names.specs.Looking.{UsesFault, use_place}
 use Rattle.names.proofs.Places.{in_left, in_right, split_in}
 

@@ -1,12 +1,12 @@
 -- The entries of a line's formula, and what the formula uses.
-use Rattle.std.proofs.Common.{◌≡◌, ℕ, suc, ◌+◌, ◌<◌, ◌≤◌, Bool, true, false, cond, leb, ◌⊎◌, List, [], ◌∷◌, ◌++◌, map, length, sym, refl, ap, ◌∙◌, subst, inl, inr, ⊎_elim, arith}
+use Rattle.std.proofs.Common.{◌≡◌, ℕ, suc, ◌+◌, ◌<◌, ◌≤◌, cond, leb, List, [], ◌∷◌, ◌++◌, map, sym, refl, ap, ◌∙◌, subst, ⊎_elim, arith}
 use Rattle.std.proofs.lemmas.Bool.Decides.{leb_tells}
 use Rattle.grammar.specs.declared.table.Node.{Node as NodeEntry}
-use Rattle.grammar.specs.Syntax.{Word, word, num, Term, constant, bare, raised, lowered, Weights, absent, given, Formula, compared, called, negated, picked, joined, Field, Rule}
-use Rattle.grammar.specs.Tables.{node_at, Entries, a_comparison, a_call, a_not, a_pick, a_join, size, joins, Rising, place_of, term_places, terms_places, weights_places, formula_places}
-use Rattle.names.specs.Lists.{In, this, that}
-use Rattle.names.specs.Faults.{Use, term, call, weight, term_uses, terms_uses, weight_uses, uses, UseFault, FormulaFault, First}
-use Rattle.names.specs.Looking.{own_uses, use_place, IsEntry, an_entry_compared, an_entry_called, an_entry_negated, an_entry_picked, an_entry_joined, UsesFault, AreEntries, EntriesFault}
+use Rattle.grammar.specs.Syntax.{Word, num, Term, constant, bare, raised, lowered, Weights, absent, given, Formula, compared, called, negated, picked, joined, Field, Rule}
+use Rattle.grammar.specs.Tables.{node_at, Entries, a_comparison, a_call, a_not, a_pick, a_join, size, Rising, place_of, term_places, terms_places, weights_places, formula_places}
+use Rattle.names.specs.Lists.{In, that}
+use Rattle.names.specs.Faults.{Use, term, term_uses, terms_uses, weight_uses, uses, FormulaFault}
+use Rattle.names.specs.Looking.{own_uses, use_place, IsEntry, an_entry_compared, an_entry_called, an_entry_negated, an_entry_picked, an_entry_joined, AreEntries, EntriesFault}
 use Rattle.names.proofs.Places.{in_left, in_right, split_in}
 use Rattle.names.proofs.Ordered.{map_append, uses_left, uses_right}
 

@@ -1,9 +1,8 @@
 -- Lists: what stands where, and what is in a list.
-use Rattle.std.proofs.Common.{◌≡◌, ℕ, zero, suc, ◌+◌, ◌<◌, ◌≤◌, ◌⊎◌, List, [], ◌∷◌, ◌++◌, map, length, take, sym, refl, subst, inl, inr, ⊎_elim, arith}
+use Rattle.std.proofs.Common.{ℕ, zero, suc, ◌<◌, ◌⊎◌, List, [], ◌∷◌, ◌++◌, map, length, take, inl, inr, ⊎_elim, arith}
 use Rattle.grammar.specs.Syntax.{Word, Formula, Rule, rule_line}
 use Rattle.names.specs.Lists.{Stands, here, there, In, this, that}
 use Rattle.names.specs.Faults.{all_names}
-use Rattle.names.proofs.Search.{stands_in}
 
 pub in_left : {A : Type 0} {xs : List A} {x : A} (ys : List A) → In A xs x → In A (xs ++ ys) x
 in_left ys this = this

@@ -1,5 +1,5 @@
 -- The entries of a line, one after the other.
-use Rattle.std.proofs.Common.{◌≡◌, ℕ, ◌+◌, ◌<◌, ◌≤◌, ◌≢◌, ◌⊎◌, List, [], ◌∷◌, ◌++◌, map, length, get_or, take, set, Some, None, Ok, Err, Option, sym, refl, ap, ◌∙◌, subst, inl, inr, ⊎_elim, arith, get_or-set_other, get_or-set_same}
+use Rattle.std.proofs.Common.{◌≡◌, ℕ, ◌+◌, ◌<◌, ◌≤◌, ◌≢◌, ◌⊎◌, List, length, take, set, Some, None, Ok, Err, Option, sym, ◌∙◌, subst, inl, inr, ⊎_elim, arith, get_or-set_other, get_or-set_same}
 use Rattle.refusal.specs.declared.Fault.{Fault}
 use Rattle.grammar.specs.declared.table.Word.{Word as WordEntry}
 use Rattle.grammar.specs.declared.table.Table.{Table}
@@ -13,7 +13,7 @@ use Rattle.formula.specs.declared.Comparison.TheVariants.{Equal}
 use Rattle.sheet.specs.declared.node.Node.TheVariants.{Compare}
 use Rattle.sheet.specs.declared.node.Term.TheVariants.{Number}
 use Rattle.names.specs.Faults.{First}
-use Rattle.names.specs.Looking.{names_of, Heads, Numbered, UsesFault, own_uses, AreEntries, EntriesFault, EntriesSettled, EntrySettled, SameOutside, EarlierOf, Sooner, Best}
+use Rattle.names.specs.Looking.{names_of, Heads, Numbered, UsesFault, own_uses, AreEntries, EntriesFault, EntriesSettled, EntrySettled, SameOutside, Sooner, Best}
 use Rattle.names.proofs.Search.{le_trans}
 
 -- what is settled of the entries below i, where those from start to before end are entries of formulas

@@ -1,9 +1,8 @@
 -- What is settled of an entry, from what is settled of its parts.
-use Rattle.std.proofs.Common.{◌≡◌, ℕ, ◌<◌, ◌≤◌, List, [], ◌∷◌, ◌++◌, map, length, take, Ok, Err, sym, refl, ap, ◌∙◌, subst, arith}
+use Rattle.std.proofs.Common.{◌≡◌, ℕ, ◌<◌, ◌≤◌, List, [], ◌∷◌, map, length, take, Ok, Err, sym, ◌∙◌, subst, arith}
 use Rattle.std.proofs.lemmas.List.{take_all}
 use Rattle.formula.specs.declared.Comparison.{Comparison}
 use Rattle.formula.specs.declared.Join.{Join}
-use Rattle.formula.specs.Trees as tree
 use Rattle.refusal.specs.declared.Fault.{Fault}
 use Rattle.refusal.specs.Table.{number}
 use Rattle.grammar.specs.declared.table.Word.{Word as WordEntry}
@@ -11,15 +10,13 @@ use Rattle.grammar.specs.declared.table.Term.{Term as TermEntry}
 use Rattle.grammar.specs.declared.table.Weights.{Weights as WeightsEntry}
 use Rattle.grammar.specs.declared.table.Node.TheVariants.{Compared, Called, Negated, Picked, Joined}
 use Rattle.grammar.specs.declared.table.Table.{Table}
-use Rattle.grammar.specs.Syntax.{Word, Term, Formula, Field, Rule}
-use Rattle.grammar.specs.Tables.{word_of, term_of, weights_of, fields_of, Rising}
+use Rattle.grammar.specs.Syntax.{Word, Term, Field, Rule}
+use Rattle.grammar.specs.Tables.{word_of, term_of, fields_of, Rising}
 use Rattle.sheet.specs.declared.node.Name.{Name}
 use Rattle.sheet.specs.declared.node.Term.{Term as SheetTerm}
 use Rattle.sheet.specs.declared.node.Node.TheVariants.{Compare, Call, Not, Pick, Join as JoinNode}
-use Rattle.names.specs.Lists.{In, this, that, Each}
-use Rattle.names.specs.Names.{Means, Calls, TermIs}
-use Rattle.names.specs.Faults.{Use, term, call, term_uses, terms_uses, weight_uses, UseFault, First}
-use Rattle.names.specs.Looking.{names_of, Heads, own_uses, use_place, UsesFault, IsEntry, an_entry_compared, an_entry_called, an_entry_negated, an_entry_picked, an_entry_joined, Numbered, numbered_compared, numbered_called, numbered_negated, numbered_picked, numbered_joined, NameSettled, CallSettled, TermSettled, TermsSettled, WeightsSettled, EntrySettled}
+use Rattle.names.specs.Faults.{term, call, term_uses, terms_uses, weight_uses, UseFault, First}
+use Rattle.names.specs.Looking.{names_of, use_place, UsesFault, an_entry_compared, an_entry_called, an_entry_negated, an_entry_picked, an_entry_joined, numbered_compared, numbered_called, numbered_negated, numbered_picked, numbered_joined, NameSettled, CallSettled, TermSettled, TermsSettled, WeightsSettled, EntrySettled}
 use Rattle.names.proofs.Numbering.{one_to, one_from, first_like, no_uses}
 use Rattle.names.proofs.Ordered.{first_left, first_right, none_both, uses_right}
 

@@ -1,19 +1,19 @@
 -- How many fields, rules and formulas the sheet has that a table comes to.
-use Rattle.std.proofs.Common.{◌≡◌, ℕ, suc, ◌+◌, ◌<◌, ◌≤◌, ◌⊎◌, List, [], ◌∷◌, ◌++◌, length, take, sym, refl, ap, ◌∙◌, subst, inl, inr, ⊎_elim, arith}
+use Rattle.std.proofs.Common.{◌≡◌, ℕ, suc, ◌+◌, List, [], ◌∷◌, ◌++◌, length, sym, refl, ap, ◌∙◌, subst, ⊎_elim, arith}
 use Rattle.std.proofs.lemmas.List.{take_at}
 use Rattle.formula.specs.Trees as tree
 use Rattle.grammar.specs.declared.table.Node.{Node}
 use Rattle.grammar.specs.declared.table.RuleLine.{RuleLine}
 use Rattle.grammar.specs.declared.table.Table.{Table}
-use Rattle.grammar.specs.Syntax.{Word, Formula, Field, field_line, Rule, rule_line, Mark, mark_line, Sheet, sheet}
-use Rattle.grammar.specs.Tables.{Entries, a_comparison, a_call, a_not, a_pick, a_join, size, Over, many_params, many_joins, many_formulas, Rules, no_rules, a_rule, LinesAbove, Holds, whole, over_field, over_rule, over_mark}
+use Rattle.grammar.specs.Syntax.{Word, Formula, Field, field_line, Rule, rule_line, Mark, Sheet, sheet}
+use Rattle.grammar.specs.Tables.{Entries, a_comparison, a_call, a_not, a_pick, a_join, size, Over, Rules, no_rules, a_rule, Holds, whole, over_field, over_rule, over_mark}
 use Rattle.sheet.specs.Keeping as sheets
 use Rattle.sheet.specs.Sheets.{sizes_of}
 use Rattle.names.specs.declared.summary.Contents.{Contents}
 use Rattle.names.specs.Lists.{Stands, here, there, Each, end, item}
 use Rattle.names.specs.Names.{FormulaIs, compared_is, called_is, negated_is, picked_is, joined_is, FieldIs, RulesAre, one_rule, Resolves, resolved}
 use Rattle.names.specs.Names as names
-use Rattle.names.specs.Faults.{sizes, FieldFault, many_fields, RuleFault, many_rules, rule_passes, MarkFault, mark_passes, Faulty, in_field, in_rule, in_mark, Named}
+use Rattle.names.specs.Faults.{sizes, FieldFault, many_fields, RuleFault, many_rules, rule_passes, mark_passes, Faulty, in_field, in_rule, in_mark}
 use Rattle.names.specs.Reading.{Counted}
 use Rattle.names.specs.Layers.{HasContents}
 

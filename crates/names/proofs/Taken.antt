@@ -1,18 +1,16 @@
 -- Whether a name is taken: in the tables and in the sheet.
-use Rattle.std.proofs.Common.{◌≡◌, ℕ, zero, suc, ◌+◌, ◌<◌, ◌≤◌, ◌⊎◌, List, [], ◌∷◌, ◌++◌, map, length, get_or, take, Some, None, Option, sym, refl, ap, ◌∙◌, subst, inl, inr, ⊎_elim, arith, take-take}
+use Rattle.std.proofs.Common.{◌≡◌, ℕ, zero, suc, ◌<◌, ◌≤◌, ◌⊎◌, List, [], ◌∷◌, ◌++◌, map, length, get_or, take, sym, refl, ap, ◌∙◌, subst, inl, inr, ⊎_elim, arith, take-take}
 use Rattle.std.proofs.lemmas.List.{take-map, length-map}
-use Rattle.refusal.specs.declared.Fault.{Fault}
-use Rattle.refusal.specs.Table.{number}
 use Rattle.grammar.specs.declared.table.Word.{Word as WordEntry}
 use Rattle.grammar.specs.declared.table.FieldLine.{FieldLine}
 use Rattle.grammar.specs.declared.table.RuleLine.{RuleLine}
 use Rattle.grammar.specs.declared.table.Table.{Table}
-use Rattle.grammar.specs.Syntax.{Word, word, Number, num, Formula, Field, field_line, Rule, rule_line}
+use Rattle.grammar.specs.Syntax.{Word, num, Field, field_line, Rule, rule_line}
 use Rattle.grammar.specs.Tables.{word_of, field_of, fields_of, params_of, place_of, Rising}
-use Rattle.names.specs.Lists.{Stands, here, there, In, this, that, Each, end, item}
+use Rattle.names.specs.Lists.{Stands, here, there, In, this, that, end, item}
 use Rattle.names.specs.Names.{spelling}
 use Rattle.names.specs.Faults.{field_name, rule_name, all_names, Taken, FieldFault, field_taken, wrong_range, many_fields, First, NoLater}
-use Rattle.names.specs.Looking.{Alike, SomeOf, IsHead, Heads, Declares, ParamTaken, no_word, NamesFault, Best}
+use Rattle.names.specs.Looking.{Alike, SomeOf, Heads, Declares, ParamTaken, no_word, NamesFault}
 use Rattle.names.proofs.Search.{stands_in, in_stands}
 use Rattle.std.proofs.str.Laws.{order}
 use Rattle.names.proofs.Lookups.{stands_at, stands_is}

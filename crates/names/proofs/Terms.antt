@@ -1,12 +1,10 @@
 -- The terms of a call, one after the other.
-use Rattle.std.proofs.Common.{◌≡◌, ℕ, zero, suc, ◌+◌, ◌<◌, ◌≤◌, List, [], ◌∷◌, ◌++◌, map, length, get_or, take, sym, refl, ap, ◌∙◌, subst, append_assoc, arith}
-use Rattle.formula.specs.Trees as tree
+use Rattle.std.proofs.Common.{◌≡◌, ℕ, zero, suc, ◌<◌, List, [], ◌∷◌, ◌++◌, map, length, get_or, take, sym, refl, ap, ◌∙◌, subst, append_assoc, arith}
 use Rattle.grammar.specs.declared.table.Term.{Term as TermEntry}
 use Rattle.grammar.specs.Syntax.{Word, Term, Field, Rule}
 use Rattle.grammar.specs.Tables.{term_of, Rising}
-use Rattle.names.specs.Lists.{In, this, that, Each, end, item}
-use Rattle.names.specs.Names.{TermIs}
-use Rattle.names.specs.Faults.{Use, term_uses, terms_uses, First}
+use Rattle.names.specs.Lists.{Each, end, item}
+use Rattle.names.specs.Faults.{term_uses, terms_uses, First}
 use Rattle.names.specs.Looking.{UsesFault, use_place}
 use Rattle.names.proofs.Numbering.{no_uses}
 use Rattle.names.proofs.Ordered.{map_append, first_left, first_right, none_both, uses_right}

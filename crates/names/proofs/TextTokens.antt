@@ -1,5 +1,5 @@
 -- What the grammar may rely on of the tokens of a text: their places rise, and their numbers are at most 1,023.
-use Rattle.std.proofs.Common.{◌≡◌, ℕ, ◌+◌, ◌<◌, ◌≤◌, Bool, true, false, cond, List, [], ◌∷◌, ◌++◌, length, codes, refl, subst, arith}
+use Rattle.std.proofs.Common.{ℕ, ◌<◌, ◌≤◌, Bool, true, false, cond, List, [], ◌∷◌, ◌++◌, codes, subst, arith}
 use Rattle.std.specs.Str.{bytes_eq}
 use Rattle.formula.specs.declared.Join.TheVariants.{And, Or}
 use Rattle.signs.specs.declared.token.Sign.{Sign}

@@ -1,5 +1,5 @@
 -- A line whose entries are numbered holds the tree that its formula comes to.
-use Rattle.std.proofs.Common.{◌≡◌, ℕ, suc, ◌+◌, ◌<◌, ◌≤◌, max, Bool, true, false, cond, List, [], ◌∷◌, ◌++◌, map, length, take, sym, refl, ap, ◌∙◌, subst, arith}
+use Rattle.std.proofs.Common.{◌≡◌, ℕ, suc, ◌+◌, ◌<◌, ◌≤◌, cond, List, map, length, take, sym, refl, ap, ◌∙◌, subst, arith}
 use Rattle.std.proofs.lemmas.List.{take_all}
 use Rattle.formula.specs.declared.Comparison.{Comparison}
 use Rattle.formula.specs.declared.Join.{Join}
@@ -10,13 +10,10 @@ use Rattle.grammar.specs.declared.table.Term.{Term as TermEntry}
 use Rattle.grammar.specs.declared.table.Weights.{Weights as WeightsEntry}
 use Rattle.grammar.specs.declared.table.Node.{Node as NodeEntry}
 use Rattle.grammar.specs.declared.table.Node.TheVariants.{Compared, Called, Negated, Picked, Joined}
-use Rattle.grammar.specs.Grammar.{Level, any, only, Kind, unit, formula}
+use Rattle.grammar.specs.Grammar.{only, Kind, unit, formula}
 use Rattle.grammar.specs.Syntax.{Word, Term, Weights, Formula, compared, called, negated, picked, joined, Field, Rule}
 use Rattle.grammar.specs.Tables.{word_of, term_of, weights_of, node_at, Entries, a_comparison, a_call, a_not, a_pick, a_join, size, joins, nested, bracketed, differ}
-use Rattle.sheet.specs.declared.node.Name.{Name}
-use Rattle.sheet.specs.declared.node.Term.{Term as SheetTerm}
 use Rattle.sheet.specs.declared.node.Node.{Node}
-use Rattle.sheet.specs.declared.node.Node.TheVariants.{Compare, Call, Not, Pick, Join as JoinNode}
 use Rattle.sheet.specs.Table as table
 use Rattle.sheet.specs.Keeping as keeping
 use Rattle.names.specs.Lists.{Each}

@@ -1,14 +1,13 @@
 -- A sheet comes to one tree, or has a first fault.
-use Rattle.std.proofs.Common.{◌≡◌, ℕ, suc, ◌+◌, ◌<◌, ◌≤◌, ◌⊎◌, List, [], ◌∷◌, ◌++◌, map, length, take, sym, refl, ap, ◌∙◌, subst, inl, inr, ⊎_elim, append_assoc, append-nil, arith}
+use Rattle.std.proofs.Common.{◌≡◌, ℕ, ◌<◌, List, [], ◌∷◌, ◌++◌, map, length, take, sym, refl, ap, ◌∙◌, subst, inl, inr, ⊎_elim, append_assoc, arith}
 use Rattle.std.proofs.str.Laws.{order}
 use Rattle.std.proofs.lemmas.List.{take_at}
 use Rattle.formula.specs.Trees as tree
-use Rattle.grammar.specs.Syntax.{Word, word, Number, num, Term, constant, bare, raised, lowered, Weights, absent, given, Formula, compared, called, negated, picked, joined, Field, field_line, Rule, rule_line, Mark, mark_line, Sheet, sheet}
-use Rattle.grammar.specs.Tables.{place_of}
-use Rattle.names.specs.Lists.{Stands, here, there, In, this, that, Each, end, item}
+use Rattle.grammar.specs.Syntax.{Word, Number, num, Term, constant, bare, raised, lowered, Formula, compared, called, negated, picked, joined, Field, field_line, Rule, rule_line, Mark, mark_line, Sheet, sheet}
+use Rattle.names.specs.Lists.{Stands, In, this, that, Each, end, item}
 use Rattle.names.specs.Names.{spelling, Means, a_field, a_param, Calls, the_rule, TermIs, constant_is, bare_is, raised_is, lowered_is, FormulaIs, compared_is, called_is, negated_is, picked_is, joined_is, FieldIs, field_is, RulesAre, no_rules, one_rule, Resolves, resolved}
-use Rattle.names.specs.Faults.{Use, term, call, weight, term_uses, terms_uses, weight_uses, uses, unknown_name, unknown_rule, FormulaFault, field_name, rule_name, all_names, FieldFault, field_taken, RuleFault, rule_taken, param_taken, rule_formula, MarkFault, mark_formula, Faulty, in_field, in_rule, in_mark, FirstFault, Named, OneVerdict}
-use Rattle.names.proofs.Search.{Dec, Search, stands_in}
+use Rattle.names.specs.Faults.{Use, term, call, term_uses, terms_uses, weight_uses, uses, unknown_name, unknown_rule, FormulaFault, field_name, rule_name, field_taken, RuleFault, rule_taken, param_taken, rule_formula, mark_formula, Faulty, in_field, in_rule, in_mark, FirstFault, OneVerdict}
+use Rattle.names.proofs.Search.{stands_in}
 use Rattle.names.proofs.Faults.{known, callable, first_fault}
 use Rattle.names.proofs.Places.{in_left, in_right, in_map, stands_take, stands_after, stands_upto, name_in}
 

@@ -1,7 +1,7 @@
 -- The weights of a join.
-use Rattle.std.proofs.Common.{◌≡◌, ℕ, List, [], ◌∷◌, ◌++◌, map, sym, refl, ap, ◌∙◌, subst, inr, arith}
+use Rattle.std.proofs.Common.{◌≡◌, ℕ, List, [], ◌∷◌, sym, refl, subst, inr, arith}
 use Rattle.grammar.specs.Syntax.{Word, num, Field, Rule}
-use Rattle.names.specs.Faults.{Use, weight, UseFault, zero_weight, First, NoLater}
+use Rattle.names.specs.Faults.{weight, UseFault, zero_weight, First}
 use Rattle.names.specs.Looking.{UsesFault}
 use Rattle.names.proofs.Numbering.{one_to, one_from, first_like}
 

@@ -1,19 +1,17 @@
 -- What is settled of a line, from its names and its entries.
-use Rattle.std.proofs.Common.{◌≡◌, ℕ, ◌+◌, ◌<◌, ◌≤◌, ◌⊎◌, List, [], ◌∷◌, ◌++◌, map, length, get_or, take, Some, None, Option, sym, refl, ap, ◌∙◌, subst, inl, inr, ⊎_elim, arith}
+use Rattle.std.proofs.Common.{◌≡◌, ℕ, ◌+◌, ◌<◌, ◌⊎◌, List, [], ◌∷◌, ◌++◌, map, length, take, Some, None, Option, sym, refl, subst, inl, inr, ⊎_elim, arith}
 use Rattle.std.proofs.lemmas.List.{take_more}
 use Rattle.refusal.specs.declared.Fault.{Fault}
-use Rattle.refusal.specs.Table.{number}
 use Rattle.grammar.specs.declared.table.Word.{Word as WordEntry}
-use Rattle.grammar.specs.declared.table.RuleLine.{RuleLine}
 use Rattle.grammar.specs.declared.table.Table.{Table}
 use Rattle.grammar.specs.Syntax.{Word, Formula, Field, Rule, rule_line, mark_line}
-use Rattle.grammar.specs.Tables.{place_of, formula_places, fields_of, Entries, Over, Rising}
+use Rattle.grammar.specs.Tables.{place_of, formula_places, fields_of, Over, Rising}
 use Rattle.sheet.specs.declared.node.Node.{Node}
-use Rattle.names.specs.Lists.{Stands, In, this, that}
-use Rattle.names.specs.Faults.{uses, FormulaFault, RuleFault, rule_taken, param_taken, rule_formula, many_rules, rule_passes, MarkFault, mark_formula, mark_passes, sizes, First, NoLater}
-use Rattle.names.specs.Looking.{use_place, names_of, Heads, NamesFault, NamesSettled, EntriesSettled, EntriesNumbered, EntriesFault, IsRuleLine, RuleSettled, MarkSettled, Best, rule_at}
+use Rattle.names.specs.Lists.{In, this, that}
+use Rattle.names.specs.Faults.{FormulaFault, RuleFault, rule_taken, param_taken, rule_formula, many_rules, rule_passes, MarkFault, mark_formula, mark_passes, sizes, First}
+use Rattle.names.specs.Looking.{names_of, Heads, NamesFault, NamesSettled, EntriesSettled, EntriesNumbered, RuleSettled, MarkSettled, Best, rule_at}
 use Rattle.names.proofs.Search.{stands_in}
-use Rattle.names.proofs.Places.{in_left, in_right, in_map}
+use Rattle.names.proofs.Places.{in_map}
 use Rattle.names.proofs.Lookups.{no_rule_line}
 use Rattle.names.proofs.Ordered.{rising_left, rising_right, rising_across}
 use Rattle.names.proofs.Terms.{each_push}

@@ -3,7 +3,7 @@ use Rattle.std.specs.Prelude.{◌≡◌, ℕ, List, [], ◌∷◌, ◌++◌, len
 use Rattle.formula.specs.declared.Comparison.{Comparison}
 use Rattle.formula.specs.declared.Join.{Join}
 use Rattle.formula.specs.Trees as tree
-use Rattle.grammar.specs.Syntax.{Word, word, Number, num, Term, constant, bare, raised, lowered, Weights, absent, given, Formula, compared, called, negated, picked, joined, Field, field_line, Rule, rule_line, Mark, mark_line, Sheet, sheet}
+use Rattle.grammar.specs.Syntax.{Word, word, Number, num, Term, constant, bare, raised, lowered, Weights, absent, given, Formula, compared, called, negated, picked, joined, Field, field_line, Rule, rule_line, mark_line, Sheet, sheet}
 use Rattle.names.specs.Lists.{Stands, Each}
 
 -- the bytes of a name

@@ -1,5 +1,5 @@
 -- The numbers of a call's four terms.
-use Rattle.std.proofs.Common.{◌≡◌, ℕ, zero, suc, ◌<◌, true, List, [], ◌∷◌, length, get_or, sym, refl, ap, ◌∙◌, arith}
+use Rattle.std.proofs.Common.{◌≡◌, ℕ, zero, suc, ◌<◌, true, List, [], ◌∷◌, length, get_or, arith}
 use Rattle.meaning.specs.Terms.{value}
 use Rattle.meaning.proofs.Basics.{and_left, and_right}
 use Rattle.sheet.specs.declared.node.Term.{Term}

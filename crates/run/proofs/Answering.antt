@@ -1,5 +1,5 @@
 -- What the lists hold at the end of a run, and what a run that is halted or ends early means.
-use Rattle.std.proofs.Common.{◌≡◌, ℕ, zero, suc, ◌+◌, ◌-◌, ◌*◌, ◌<◌, ◌≤◌, ◌⊎◌, List, [], ◌∷◌, ◌++◌, length, get_or, take, drop, set, Some, None, Option, sym, refl, ap, ◌∙◌, subst, inl, inr, arith}
+use Rattle.std.proofs.Common.{◌≡◌, ℕ, zero, suc, ◌+◌, ◌≤◌, List, [], ◌∷◌, ◌++◌, length, take, drop, set, Some, None, sym, refl, ap, ◌∙◌, subst, inl, inr, arith}
 use lib.Seq.{set-get_or, sets, sets-eq}
 use Rattle.formula.specs.Trees.{Sheet}
 use Rattle.marks.specs.Sets.{Marks, MarksOf}
@@ -10,9 +10,9 @@ use Rattle.meaning.specs.Draws.{Takes, takes_none, takes_one}
 use Rattle.meaning.proofs.Runs.{run_part}
 use Rattle.run.specs.declared.along.End.{End}
 use Rattle.run.specs.declared.along.End.TheVariants.{Mark, DeadEnd, Spent, Halted}
-use Rattle.run.specs.Guides.{Noted, noted, Guide, recorded, numbers, NoPick, Guided, entries}
+use Rattle.run.specs.Guides.{Noted, Guide, recorded, numbers, NoPick, Guided, entries}
 use Rattle.run.specs.Answering.{over, picks_of, widths_of}
-use Rattle.run.specs.Ways.{Trail, trail, put, written, Way, Took, Halt, Room}
+use Rattle.run.specs.Ways.{Trail, trail, put, written, Way, Took, Halt}
 use Rattle.run.specs.Whole.{Running, Along, end_of}
 use Rattle.run.proofs.Guides.{guided_one, guided_apart, halted_one, halted_apart}
 

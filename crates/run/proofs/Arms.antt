@@ -1,26 +1,23 @@
 -- Each kind of formula, as one turn.
-use Rattle.std.proofs.Common.{◌≡◌, ℕ, zero, suc, ◌+◌, ◌-◌, ◌*◌, ◌<◌, ◌≤◌, Bool, true, false, not, ◌&&◌, ◌≢◌, ◌⊎◌, List, [], ◌∷◌, ◌++◌, map, length, get_or, set, Some, None, Option, sym, refl, ap, ◌∙◌, subst, ap₂, inl, inr, append_assoc, append-nil, arith, length-set}
+use Rattle.std.proofs.Common.{◌≡◌, ℕ, zero, suc, ◌-◌, ◌<◌, Bool, true, false, not, ◌≢◌, List, [], ◌∷◌, ◌++◌, Some, None, sym, refl, ap, subst, inl, inr, append-nil, arith}
 use mathlib.Core.Bool.{beq}
 use borrow.Author.Tests.{clash}
 use Rattle.marks.specs.Sets.{Marks}
-use Rattle.marks.specs.Counted.{some}
-use Rattle.formula.specs.Trees.{Rule, Formula, Name, Term, compare, call, negate, pick, join, num}
+use Rattle.formula.specs.Trees.{Rule, Formula, Name, Term, compare, call, negate, pick, join}
 use Rattle.formula.specs.declared.Comparison.{Comparison}
 use Rattle.formula.specs.declared.Join.{Join}
 use Rattle.meaning.specs.Terms.{body, wants}
-use Rattle.formula.specs.declared.Comparison.TheVariants.{Equal}
-use Rattle.meaning.specs.Traces.{Trace, took, branch, Choice, width}
+use Rattle.meaning.specs.Traces.{Trace, took, branch}
 use Rattle.marks.specs.Sets.{Empty}
-use Rattle.meaning.specs.Lengths.{joins}
-use Rattle.meaning.specs.Matching.{Settles, Passes, no_more, passes, State, live, dead, spent, Matches}
+use Rattle.meaning.specs.Matching.{Settles, Passes, no_more, passes, live, dead, spent}
 use Rattle.meaning.specs.Matching.{Argument, argument as named}
-use Rattle.meaning.specs.Pending.{goal, Solves, solved, solves, load}
+use Rattle.meaning.specs.Pending.{goal, Solves, solves}
 use Rattle.meaning.specs.Pending.{Goal as Waiting}
-use Rattle.meaning.proofs.Pending.{step_dead, step_spent, step_neg, step_both, step_left, step_right, step_pick, step_call, step_out, waiting}
+use Rattle.meaning.proofs.Pending.{step_dead, step_neg, step_both, step_left, step_right, step_pick, step_call, step_out}
 use Rattle.meaning.proofs.Counting.{Counted, counted_part}
 use Rattle.meaning.proofs.Soundness.{settles_sound, passes_sound}
 use Rattle.meaning.proofs.Soundness.{sound as matched_sound}
-use Rattle.meaning.proofs.Runs.{Alive, matches_alive}
+use Rattle.meaning.proofs.Runs.{matches_alive}
 use Rattle.meaning.proofs.Picks.{arg_alive}
 use Rattle.run.specs.declared.goal.Argument.{Argument as Held}
 use Rattle.run.specs.declared.goal.Frame.{Frame}

@@ -1,13 +1,12 @@
 -- A whole comparison, from its parts.
-use Rattle.std.proofs.Common.{◌≡◌, ℕ, zero, suc, ◌+◌, ◌<◌, ◌≤◌, Bool, true, false, not, ◌&&◌, ◌≢◌, ◌⊎◌, List, [], ◌∷◌, ◌++◌, length, get_or, Some, None, Option, sym, refl, ap, ◌∙◌, subst, ap₂, inl, inr, arith}
+use Rattle.std.proofs.Common.{ℕ, Bool, true, false, List, [], ◌++◌, Some, None, subst}
 use Rattle.marks.specs.Sets.{Marks}
-use Rattle.marks.specs.Counted.{some}
 use Rattle.formula.specs.declared.Comparison.{Comparison}
 use Rattle.formula.specs.Trees.{Term, Rule, compare}
 use Rattle.meaning.specs.Terms.{aimed}
-use Rattle.meaning.specs.Traces.{Trace, Choice, width}
+use Rattle.meaning.specs.Traces.{Trace}
 use Rattle.marks.specs.Sets.{Empty}
-use Rattle.meaning.specs.Matching.{Resolves, numeral, as_it_is, settled, LeavesOne, passing, State, live, dead, Lives, some_left, none_left, Matches, compares}
+use Rattle.meaning.specs.Matching.{Resolves, numeral, as_it_is, settled, LeavesOne, passing, live, dead, Lives, some_left, none_left, Matches, compares}
 use Rattle.meaning.specs.Matching.{Argument}
 use Rattle.meaning.specs.Picks.{Telling, Fair}
 use Rattle.meaning.proofs.Basics.{and_left}
@@ -15,11 +14,11 @@ use Rattle.meaning.proofs.Counting.{Counted, counted_part}
 use Rattle.meaning.proofs.Soundness.{resolves_sound, leaves_sound}
 use Rattle.meaning.proofs.Picks.{arg_alive, lives_some, resolves_told, leaves_told}
 use Rattle.run.specs.declared.goal.Argument.{Argument as Held}
-use Rattle.run.specs.Ways.{Way, Took, Halt, Fits}
+use Rattle.run.specs.Ways.{Way, Fits}
 use Rattle.run.specs.Frames.{argument_of}
 use Rattle.run.specs.Comparing.{Resolved, Resolving, LeftOne, LeavingOne, Kept, Comparing, Compared}
 use Rattle.run.proofs.Settling.{some_alive}
-use Rattle.run.proofs.Ways.{took_map, took_none, took_join, halt_map, halt_on, halt_after, fits_on, fits_after}
+use Rattle.run.proofs.Ways.{took_join, halt_on, halt_after, fits_on, fits_after}
 
 -- the first pick everywhere
 abbrev pub first : Telling

@@ -1,9 +1,8 @@
 -- The ranges at the beginning of a run, and the fields at its end, one by one.
-use Rattle.std.proofs.Common.{◌≡◌, ℕ, zero, suc, ◌+◌, ◌-◌, ◌<◌, ◌≤◌, Bool, true, false, ◌&&◌, List, [], ◌∷◌, ◌++◌, map, length, get_or, take, set, sym, refl, ap, ◌∙◌, subst, append_assoc, append-nil, arith}
+use Rattle.std.proofs.Common.{◌≡◌, ℕ, zero, suc, ◌+◌, ◌<◌, Bool, true, false, ◌&&◌, List, [], ◌∷◌, ◌++◌, map, length, get_or, take, set, sym, refl, ap, ◌∙◌, subst, append_assoc, append-nil, arith}
 use mathlib.Core.Path.{fun_ext}
 use mathlib.Core.Bool.{and-true}
 use Rattle.marks.specs.Sets.{Marks}
-use Rattle.marks.specs.Counted.{some}
 use Rattle.std.proofs.lemmas.List.{length-map, length-take-le}
 use Rattle.formula.specs.declared.Comparison.TheVariants.{AtLeast, AtMost}
 use Rattle.formula.specs.Comparing.{holds}

@@ -1,10 +1,10 @@
 -- Frames as lists of arguments.
-use Rattle.std.proofs.Common.{◌≡◌, ℕ, zero, suc, ◌<◌, ◌≤◌, List, [], ◌∷◌, map, length, get_or, take, refl, arith}
+use Rattle.std.proofs.Common.{◌≡◌, ℕ, zero, suc, ◌<◌, List, [], ◌∷◌, map, length, get_or, take, refl, arith}
 use Rattle.meaning.specs.Matching.{the_number}
 use Rattle.sheet.specs.declared.node.Name.{Name}
 use Rattle.sheet.specs.declared.node.Name.TheVariants.{Field as NamedField, Param}
 use Rattle.run.specs.declared.goal.Argument.{Argument as Held}
-use Rattle.run.specs.declared.goal.Argument.TheVariants.{Field, Number}
+use Rattle.run.specs.declared.goal.Argument.TheVariants.{Field}
 use Rattle.run.specs.Frames.{argument_of, NameOkay, KnownIn}
 
 pub argument_at :

@@ -1,9 +1,9 @@
 -- Recorded entries one by one, and that a guide tells at most one trace.
-use Rattle.std.proofs.Common.{◌≡◌, ℕ, zero, suc, ◌+◌, ◌-◌, ◌<◌, ◌≤◌, ◌≢◌, List, [], ◌∷◌, ◌++◌, length, get_or, set, sym, refl, ap, ◌∙◌, subst, arith, get_or-set_other}
+use Rattle.std.proofs.Common.{◌≡◌, ℕ, zero, suc, ◌-◌, ◌<◌, ◌≢◌, List, [], ◌∷◌, ◌++◌, get_or, set, sym, refl, ap, ◌∙◌, subst, arith, get_or-set_other}
 use Rattle.meaning.specs.Traces.{Choice, width, took, Trace, Apart, here, there}
 use Rattle.run.specs.declared.guide.Guide.{Guide as GuideUsed}
 use Rattle.run.specs.declared.guide.Guide.TheVariants.{Recorded, Drawn}
-use Rattle.run.specs.Guides.{Noted, noted, Guide, recorded, numbers, Picks, NoPick, Guided, entries}
+use Rattle.run.specs.Guides.{noted, Guide, recorded, numbers, Picks, NoPick, Guided, entries}
 use Rattle.run.specs.Ways.{ahead}
 
 -- a write at a place leaves the entries past it

@@ -1,27 +1,25 @@
 -- Known and unknown fields, and what a comparison keeps.
-use Rattle.std.proofs.Common.{◌≡◌, ℕ, zero, suc, ◌+◌, ◌<◌, ◌≤◌, Bool, true, false, not, ◌&&◌, eqb, ◌≢◌, ◌⊎◌, List, [], ◌∷◌, ◌++◌, length, get_or, Some, None, Option, sym, refl, ap, ◌∙◌, subst, ap₂, inl, inr, arith}
+use Rattle.std.proofs.Common.{◌≡◌, ℕ, Bool, true, false, eqb, [], ◌∷◌, length, get_or, Some, None, sym, refl, ap, ◌∙◌, subst, inl}
 use Rattle.std.proofs.lemmas.Bool.{and_from, and_parts, eqb-true, eq-eqb}
 use Rattle.marks.specs.Sets.{Marks}
 use Rattle.marks.specs.Counted.{some}
 use Rattle.formula.specs.declared.Comparison.{Comparison}
-use Rattle.formula.specs.declared.Comparison.TheVariants.{Equal}
 use Rattle.formula.specs.Comparing.{holds}
 use Rattle.meaning.specs.Traces.{Trace}
-use Rattle.marks.specs.Sets.{Values, kept, Empty}
-use Rattle.meaning.specs.Matching.{the_field, the_number, Settles, number, known, chosen, Unknown, LeavesOne, left_first, at_most_one, passing}
+use Rattle.marks.specs.Sets.{kept, Empty}
+use Rattle.meaning.specs.Matching.{the_field, the_number, Settles, number, known, chosen, Unknown, left_first, at_most_one, passing}
 use Rattle.meaning.specs.Matching.{Argument}
 use Rattle.meaning.specs.Comparisons.{Is}
 use Rattle.formula.specs.Comparing.{mirrored}
 use Rattle.meaning.proofs.Values.{values_one, in_get_or, in_one}
 use Rattle.meaning.proofs.Comparisons.{comparings}
 use Rattle.run.specs.declared.goal.Argument.{Argument as Held}
-use Rattle.run.specs.Ways.{Way, Took, Halt, Fits}
+use Rattle.run.specs.Ways.{Way, Fits}
 use Rattle.run.specs.Frames.{argument_of}
 use Rattle.run.specs.Settling.{Settled, Settling}
 use Rattle.run.specs.Comparing.{Knows, LeftOne, LeavingOne, Kept, Narrowed, KeptRight}
 use Rattle.marks.specs.Sets.{MarksOf}
 use Rattle.marks.proofs.Counted.{none_empty}
-use Rattle.run.proofs.Settling.{some_alive}
 use Rattle.run.proofs.Ways.{took_map, took_none, halt_map}
 
 pub known_not : (S : Marks) (a : Argument) (v : ℕ) → Is S a v → Unknown S a → ⊥

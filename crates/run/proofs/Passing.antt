@@ -1,7 +1,6 @@
 -- The terms of a call, one by one.
-use Rattle.std.proofs.Common.{◌≡◌, ℕ, zero, suc, ◌+◌, ◌-◌, ◌<◌, ◌≤◌, Bool, true, false, List, [], ◌∷◌, ◌++◌, map, length, get_or, take, set, Some, None, sym, refl, ap, ◌∙◌, subst, ap₂, append_assoc, append-nil, add-one, arith, get_or-set_other, get_or-set_same}
+use Rattle.std.proofs.Common.{◌≡◌, ℕ, zero, suc, ◌+◌, ◌-◌, ◌<◌, ◌≤◌, List, [], ◌∷◌, ◌++◌, map, length, get_or, take, set, sym, refl, ap, ◌∙◌, subst, append_assoc, append-nil, arith, get_or-set_other, get_or-set_same}
 use Rattle.marks.specs.Sets.{Marks}
-use Rattle.marks.specs.Counted.{some}
 use Rattle.meaning.specs.Traces.{Trace}
 use Rattle.marks.specs.Sets.{Empty}
 use Rattle.meaning.specs.Matching.{Resolves, Passes, no_more, passes}
@@ -19,7 +18,7 @@ use Rattle.run.specs.declared.goal.Frame.{Frame}
 use Rattle.sheet.specs.Table.{term_of}
 use Rattle.run.specs.Frames.{argument_of, arguments_of, Okay}
 use Rattle.run.specs.Ways.{Way, Took, Halt, Fits}
-use Rattle.run.specs.Comparing.{Resolved, Resolving}
+use Rattle.run.specs.Comparing.{Resolving}
 use Rattle.run.specs.Goals.{terms, from, Passing, PassLeads}
 use Rattle.run.proofs.Ways.{took_map, took_none, took_join, halt_on, halt_after, fits_on, fits_after}
 use Rattle.run.proofs.Comparing.{first, first_fair, resolves_alive}

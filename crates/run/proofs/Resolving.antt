@@ -1,19 +1,18 @@
 -- Terms, from what settling comes to.
-use Rattle.std.proofs.Common.{◌≡◌, ℕ, zero, suc, ◌+◌, ◌<◌, ◌≤◌, Bool, true, false, ◌≢◌, ◌⊎◌, List, [], ◌∷◌, ◌++◌, length, get_or, Some, None, Option, sym, refl, ap, ◌∙◌, subst, ap₂, inl, inr, arith}
+use Rattle.std.proofs.Common.{◌≡◌, ℕ, ◌<◌, true, List, [], Some, None, sym, subst}
 use Rattle.marks.specs.Sets.{Marks}
 use Rattle.marks.specs.Counted.{some}
 use Rattle.formula.specs.Trees.{Name, Shift, num, bare, moved}
 use Rattle.meaning.specs.Terms.{shifted}
-use Rattle.meaning.specs.Traces.{Trace}
 use Rattle.meaning.specs.Matching.{Settles, Resolves, numeral, as_it_is, settled, the_number}
 use Rattle.meaning.specs.Matching.{Argument, argument as named}
 use Rattle.run.specs.declared.goal.Argument.{Argument as Held}
-use Rattle.run.specs.declared.goal.Argument.TheVariants.{Field, Number}
-use Rattle.run.specs.Ways.{Way, Took, Halt, Fits}
+use Rattle.run.specs.declared.goal.Argument.TheVariants.{Number}
+use Rattle.run.specs.Ways.{Way, Fits}
 use Rattle.run.specs.Frames.{argument_of, Okay}
 use Rattle.run.specs.Settling.{Settled, Settling}
 use Rattle.run.specs.Comparing.{Resolved, Resolving}
-use Rattle.run.proofs.Ways.{took_map, took_none, took_join, halt_map, halt_on, halt_after, fits_on, fits_after}
+use Rattle.run.proofs.Ways.{took_map, took_none, halt_map}
 
 module _ (w : ℕ) (e : List Argument) (S : Marks) (z : Way) where
   pub resolve_number : (n : ℕ) → n < 1024 → some w S ≡ true → Resolved w e S (num n) z (Some (Number n)) S z

@@ -1,5 +1,5 @@
 -- A whole run, from its beginning, its match and its end.
-use Rattle.std.proofs.Common.{◌≡◌, ℕ, zero, suc, ◌+◌, ◌*◌, ◌<◌, ◌≤◌, true, List, [], ◌∷◌, ◌++◌, length, sym, refl, ap, ◌∙◌, subst, append-nil, arith}
+use Rattle.std.proofs.Common.{◌≡◌, ℕ, ◌+◌, ◌*◌, ◌≤◌, true, List, [], ◌++◌, length, subst, append-nil, arith}
 use Rattle.formula.specs.Trees.{Sheet}
 use Rattle.marks.specs.Sets.{Marks, MarksOf, Empty}
 use Rattle.meaning.specs.Terms.{ranges_of, fields_of, rules_of, mark_line}

@@ -1,17 +1,17 @@
 -- Settling, from a store's answers.
-use Rattle.std.proofs.Common.{◌≡◌, ℕ, zero, suc, ◌+◌, ◌<◌, ◌≤◌, Bool, true, false, ◌&&◌, eqb, ◌≢◌, ◌⊎◌, List, [], ◌∷◌, length, get_or, Some, None, Ok, Err, Option, Result, sym, refl, ap, ◌∙◌, subst, inl, inr, arith}
-use Rattle.std.proofs.lemmas.Bool.{and_from, and_parts, eq-eqb, cases_Bool}
+use Rattle.std.proofs.Common.{◌≡◌, ℕ, ◌<◌, true, ◌≢◌, List, [], ◌∷◌, length, get_or, Some, None, Ok, Err, Option, Result, sym, refl, ap, ◌∙◌, subst, arith}
+use Rattle.std.proofs.lemmas.Bool.{and_from, and_parts, eq-eqb}
 use Rattle.formula.specs.Comparing.{holds}
 use Rattle.run.specs.Answering.{Inside}
 use Rattle.formula.specs.declared.Comparison.TheVariants.{Equal}
 use Rattle.marks.specs.Sets.{Marks, MarksOf, Empty, In, Values, kept}
-use Rattle.marks.specs.Counted.{some, takes, values}
-use Rattle.marks.proofs.Counted.{some_sound, some_complete, none_empty, values_are, value_taken, takes_sound}
+use Rattle.marks.specs.Counted.{some, values}
+use Rattle.marks.proofs.Counted.{some_sound, some_complete, values_are, value_taken, takes_sound}
 use Rattle.formula.specs.declared.Comparison.{Comparison}
 use Rattle.refusal.specs.declared.Refusal.{Refusal}
-use Rattle.store.specs.Rules.{Picks, Keeps, Answers}
+use Rattle.store.specs.Rules.{Picks, Keeps}
 use Rattle.meaning.specs.Traces.{took, among}
-use Rattle.meaning.specs.Matching.{the_field, Settles, number, known, chosen, Unknown}
+use Rattle.meaning.specs.Matching.{the_field, number, known, chosen, Unknown}
 use Rattle.meaning.proofs.Values.{in_get_or}
 use Rattle.run.specs.declared.goal.Argument.TheVariants.{Field, Number}
 use Rattle.run.specs.Ways.{Way, Chosen, Room, Fits}

@@ -1,8 +1,7 @@
 -- The entries of a sheet's table: what the sheet's type keeps of one, and the formulas of its lines.
-use Rattle.std.proofs.Common.{◌≡◌, ℕ, zero, suc, ◌+◌, ◌<◌, ◌≤◌, Bool, true, ◌&&◌, List, [], ◌∷◌, map, length, get_or, take, sym, refl, ap, ◌∙◌, subst, arith}
+use Rattle.std.proofs.Common.{◌≡◌, ℕ, zero, suc, ◌<◌, ◌≤◌, Bool, true, ◌&&◌, List, [], ◌∷◌, map, length, get_or, take, sym, refl, ap, ◌∙◌, subst, arith}
 use Rattle.std.proofs.lemmas.Bool.Decides.{nat_tests}
 use Rattle.std.proofs.lemmas.List.{length-map, length-take-le, get_or-take, get_or-map}
-use Rattle.formula.specs.Trees as tree
 use Rattle.formula.specs.Trees.{Formula, Rule, rule, compare, call, negate, pick, join, num}
 use Rattle.formula.specs.declared.Comparison.TheVariants.{Equal}
 use Rattle.meaning.specs.Terms.{rules_of, ranges_of, fields_of, mark_line, body, formula_of}
@@ -18,7 +17,7 @@ use Rattle.sheet.specs.declared.node.Node.TheVariants.{Compare, Call, Not, Pick,
 use Rattle.sheet.specs.declared.node.Line.{Line}
 use Rattle.sheet.specs.declared.table.Sheet.{Sheet}
 use Rattle.sheet.specs.Table.{node_at, line_at, formula_at}
-use Rattle.sheet.specs.Keeping.{Within, known_name, known_shift, known_term, known_terms, may_call, entry_kept, size}
+use Rattle.sheet.specs.Keeping.{Within, known_name, known_shift, known_term, known_terms, entry_kept, size}
 use Rattle.sheet.specs.Keeping.{joins as joins_kept}
 use Rattle.sheet.specs.Sheets.{range_of, rule_of, tree_of, sizes_of}
 use Rattle.sheet.proofs.Holding.{parts_of}

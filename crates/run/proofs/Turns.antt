@@ -1,12 +1,12 @@
 -- One turn of the loop, from what its parts come to.
-use Rattle.std.proofs.Common.{◌≡◌, ℕ, zero, suc, ◌+◌, ◌-◌, ◌*◌, ◌<◌, ◌≤◌, Bool, true, false, ◌≢◌, List, [], ◌∷◌, ◌++◌, length, get_or, set, sym, refl, ap, ◌∙◌, subst, suc-mul, add-one, arith, length-set, get_or-set_other, get_or-set_same, below_more}
+use Rattle.std.proofs.Common.{◌≡◌, ℕ, zero, suc, ◌+◌, ◌-◌, ◌*◌, ◌<◌, ◌≤◌, Bool, true, ◌≢◌, List, [], ◌∷◌, ◌++◌, length, get_or, set, sym, refl, ap, ◌∙◌, subst, suc-mul, add-one, arith, length-set, get_or-set_other, get_or-set_same, below_more}
 use Rattle.formula.specs.Trees.{Formula, Rule}
 use Rattle.marks.specs.Sets.{Marks}
 use Rattle.marks.specs.Counted.{some}
 use Rattle.meaning.specs.Terms.{rules_of}
 use Rattle.meaning.specs.Traces.{Trace}
 use Rattle.meaning.specs.Lengths.{joins}
-use Rattle.meaning.specs.Matching.{Argument, State, live}
+use Rattle.meaning.specs.Matching.{Argument, State}
 use Rattle.meaning.specs.Pending.{goal, Solves, solved, solves, load}
 use Rattle.meaning.specs.Pending.{Goal as Waiting}
 use Rattle.meaning.proofs.Pending.{waiting}
@@ -28,7 +28,7 @@ use Rattle.run.specs.Frames.{arguments_of, FrameOkay}
 use Rattle.run.specs.Ways.{Way, Took}
 use Rattle.run.specs.declared.turn.Turn.{Turn}
 use Rattle.run.specs.declared.turn.Turn.TheVariants.{Moved, Dead, Spent, Halted}
-use Rattle.run.specs.Goals.{no_goal, no_frame, goal_of, pending, Spot, spot, stack, Stood, Good, Fit, mass, weight, Leads, Moves, Turned, Entered}
+use Rattle.run.specs.Goals.{no_goal, no_frame, goal_of, pending, Spot, spot, Stood, Good, Fit, mass, Leads, Moves, Turned, Entered}
 use Rattle.run.proofs.Comparing.{first, first_fair}
 use Rattle.run.proofs.Tables.{NodeOkay, entry_okay, line_joins, body_size}
 

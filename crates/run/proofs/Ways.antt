@@ -1,5 +1,5 @@
 -- Traces taken one after the other.
-use Rattle.std.proofs.Common.{◌≡◌, ℕ, zero, suc, ◌+◌, ◌<◌, ◌≤◌, List, [], ◌∷◌, ◌++◌, length, sym, refl, ap, ◌∙◌, subst, append_assoc, arith, length-append, length-set}
+use Rattle.std.proofs.Common.{◌≡◌, ◌+◌, [], ◌∷◌, ◌++◌, length, sym, refl, ap, ◌∙◌, subst, append_assoc, arith, length-append, length-set}
 use Rattle.meaning.specs.Traces.{width, took, Trace}
 use Rattle.run.specs.Ways.{Trail, Room, put, written, Way, Took, Fits, Halt}
 use Rattle.run.proofs.Guides.{guided_join}

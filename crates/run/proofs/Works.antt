@@ -1,23 +1,22 @@
 -- The loop over the goals, from its turns.
-use Rattle.std.proofs.Common.{◌≡◌, ℕ, zero, suc, ◌+◌, ◌-◌, ◌*◌, ◌<◌, ◌≤◌, Bool, true, false, List, [], ◌∷◌, ◌++◌, length, get_or, set, sym, refl, ap, ◌∙◌, subst, append_assoc, append-nil, arith, length-set, get_or-set_same}
+use Rattle.std.proofs.Common.{◌≡◌, ℕ, ◌+◌, ◌*◌, ◌<◌, ◌≤◌, true, List, [], ◌∷◌, ◌++◌, length, get_or, set, sym, ap, ◌∙◌, subst, append_assoc, append-nil, arith, length-set, get_or-set_same}
 use Rattle.formula.specs.Trees.{Formula, Rule}
 use Rattle.marks.specs.Sets.{Marks}
 use Rattle.marks.specs.Counted.{some}
 use Rattle.meaning.specs.Terms.{mark_line}
-use Rattle.meaning.specs.Traces.{Trace}
 use Rattle.meaning.specs.Lengths.{joins}
-use Rattle.meaning.specs.Matching.{State, live, dead, spent, Matches}
-use Rattle.meaning.specs.Pending.{goal, Solves, solved, solves, load}
+use Rattle.meaning.specs.Matching.{State, live, Matches}
+use Rattle.meaning.specs.Pending.{goal, Solves, solved, load}
 use Rattle.meaning.specs.Pending.{Goal as Waiting}
 use Rattle.meaning.proofs.Pending.{alone}
 use Rattle.sheet.specs.declared.table.Sheet.{Sheet}
-use Rattle.sheet.specs.Table.{line_at, formula_at}
+use Rattle.sheet.specs.Table.{line_at}
 use Rattle.sheet.specs.Sheets.{tree_of}
 use Rattle.run.specs.declared.goal.Goal.{Goal}
 use Rattle.run.specs.declared.goal.Frame.{Frame}
 use Rattle.run.specs.Frames.{arguments_of, FrameOkay}
 use Rattle.run.specs.Ways.{Way, Took, Halt, Fits}
-use Rattle.run.specs.Goals.{spot, stack, pending, Stood, Fit, Good, no_goal, no_frame, Leads, Solving}
+use Rattle.run.specs.Goals.{spot, pending, Stood, Fit, no_goal, no_frame, Leads, Solving}
 use Rattle.run.specs.Works.{Matching, Matched}
 use Rattle.run.proofs.Ways.{took_map, took_none, took_join, halt_after, fits_after}
 use Rattle.run.proofs.Passing.{blank, blank_okay}

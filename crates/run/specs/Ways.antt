@@ -1,6 +1,6 @@
 -- For the contracts of inner functions: the trace lists and the guide of a run under way; that a part of it
 -- took a trace, or came to a choice at which no pick is told.
-use Rattle.std.specs.Prelude.{◌≡◌, ℕ, zero, suc, ◌+◌, ◌-◌, ◌<◌, ◌≤◌, List, [], ◌∷◌, ◌++◌, length, Some, None, Option, slice_set}
+use Rattle.std.specs.Prelude.{◌≡◌, ℕ, suc, ◌+◌, ◌-◌, ◌<◌, ◌≤◌, List, [], ◌∷◌, ◌++◌, length, Some, None, Option, slice_set}
 use Rattle.meaning.specs.Traces.{Choice, among, branch, width, took, Trace}
 use Rattle.run.specs.declared.guide.Choice.{Choice as ChoiceMade}
 use Rattle.run.specs.declared.guide.Choice.TheVariants.{Among, Branch}

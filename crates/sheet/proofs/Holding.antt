@@ -1,13 +1,12 @@
 -- The entries of a line hold formulas, each one only.
-use Rattle.std.proofs.Common.{◌≡◌, ℕ, zero, suc, ◌<◌, ◌≤◌, Bool, true, List, map, take, sym, refl, ap, ◌∙◌, subst, arith}
+use Rattle.std.proofs.Common.{◌≡◌, ℕ, zero, suc, ◌<◌, ◌≤◌, true, List, refl, ap, arith}
 use Rattle.std.proofs.lemmas.Bool.Decides.{nat_tests}
 use Rattle.formula.specs.Trees as tree
-use Rattle.sheet.specs.declared.node.Name.{Name}
 use Rattle.sheet.specs.declared.node.Node.{Node}
 use Rattle.sheet.specs.declared.node.Node.TheVariants.{Compare, Call, Not, Pick, Join}
 use Rattle.sheet.specs.declared.node.Line.{Line}
 use Rattle.sheet.specs.declared.table.Sheet.{Sheet}
-use Rattle.sheet.specs.Table.{name_of, term_of, node_at, Holds, a_comparison, a_call, a_not, a_pick, a_join, whole, formula_within, formula_at, line_at}
+use Rattle.sheet.specs.Table.{name_of, node_at, Holds, a_comparison, a_call, a_not, a_pick, a_join, whole, formula_within, formula_at, line_at}
 use Rattle.sheet.specs.Keeping.{entry_kept, Within}
 use Rattle.sheet.specs.Sheets.{EntriesHold}
 

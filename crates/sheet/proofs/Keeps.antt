@@ -1,5 +1,5 @@
 -- Every sheet keeps the rules of a sheet.
-use Rattle.std.proofs.Common.{◌≡◌, ℕ, zero, suc, ◌+◌, ◌<◌, ◌≤◌, Bool, true, false, ◌&&◌, eqb, ltb, leb, List, [], ◌∷◌, map, length, get_or, take, sym, refl, ap, ◌∙◌, subst, arith}
+use Rattle.std.proofs.Common.{◌≡◌, ℕ, zero, suc, ◌+◌, ◌<◌, ◌≤◌, Bool, true, ◌&&◌, List, [], ◌∷◌, map, length, get_or, take, sym, refl, ap, ◌∙◌, subst, arith}
 use Rattle.std.proofs.lemmas.Bool.Decides.{nat_tests}
 use Rattle.std.proofs.lemmas.List.{length-map, length-take-le, get_or-take, get_or-map}
 use Rattle.formula.specs.Trees as tree
@@ -15,9 +15,9 @@ use Rattle.sheet.specs.declared.node.Line.{Line}
 use Rattle.sheet.specs.declared.node.Range.{Range}
 use Rattle.sheet.specs.declared.table.Sheet.{Sheet}
 use Rattle.sheet.specs.Table.{name_of, shift_of, term_of, node_at, line_at, range_at, whole, formula_within, formula_at}
-use Rattle.sheet.specs.Keeping.{known_name, known_shift, known_term, known_terms, is_weight, is_part, may_call, entry_kept, Within, size, sizes, formula_of}
+use Rattle.sheet.specs.Keeping.{known_name, known_shift, known_term, known_terms, entry_kept, Within, size, sizes, formula_of}
 use Rattle.sheet.proofs.Holding.{parts_of}
-use Rattle.sheet.specs.Sheets.{range_of, rule_of, tree_of, KnownName, KnownShift, KnownTerm, KnownTerms, params_of, body_of, no_rule, KeptFormula, KeptLine, KeptRange, sizes_of, Kept, EverySheetKeeps}
+use Rattle.sheet.specs.Sheets.{range_of, rule_of, tree_of, KnownName, KnownShift, KnownTerm, KnownTerms, params_of, body_of, no_rule, KeptFormula, KeptLine, KeptRange, sizes_of, EverySheetKeeps}
 
 and_both : (x y : Bool) → (x && y) ≡ true → (x ≡ true) × (y ≡ true)
 and_both x y e = grind (arith, nat_tests, e)

@@ -1,5 +1,5 @@
 -- What every sheet keeps: limits, ranges, known names, calls with their number of terms, and parts before wholes.
-use Rattle.std.specs.Prelude.{◌≡◌, ℕ, ◌+◌, ◌<◌, ◌≤◌, max, Bool, true, false, ◌&&◌, List, [], ◌∷◌, length, take, ◌==◌, nat_le, nat_lt}
+use Rattle.std.specs.Prelude.{◌≡◌, ℕ, ◌+◌, ◌<◌, ◌≤◌, max, Bool, true, ◌&&◌, List, [], ◌∷◌, length, take, ◌==◌, nat_le, nat_lt}
 use Rattle.formula.specs.declared.Join.{Join as JoinWord}
 use Rattle.formula.specs.declared.Join.TheVariants.{And, Or}
 use Rattle.formula.specs.Trees.{Formula, compare, call, negate, pick, join}

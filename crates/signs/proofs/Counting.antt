@@ -1,9 +1,9 @@
 -- Counting the tokens of a text one by one.
-use Rattle.std.proofs.Common.{◌≡◌, ℕ, ◌+◌, Bool, cond, List, [], ◌∷◌, count_by, sym, refl, ap, ◌∙◌, arith}
+use Rattle.std.proofs.Common.{◌≡◌, ℕ, ◌+◌, Bool, cond, List, [], ◌∷◌, refl, arith}
 use Rattle.std.proofs.lemmas.List.Sums.{sum_by-cons}
 use Rattle.signs.specs.declared.counts.TokenCounts.{TokenCounts}
 use Rattle.signs.specs.declared.token.Placed.{Placed}
-use Rattle.signs.specs.Tokens.{Tok, word, number, sign, TokAt, at}
+use Rattle.signs.specs.Tokens.{Tok, word, number, sign, TokAt}
 use Rattle.signs.specs.Cutting.{CutFrom}
 use Rattle.signs.specs.Answers.{spelt, placed, token_of, is_word, is_number, is_sign, count, Counts, NextToken, NoToken}
 use Rattle.signs.specs.Scanning.{OneMore}

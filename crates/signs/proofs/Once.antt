@@ -1,7 +1,7 @@
 -- A text is cut in one way, as far as it can be cut; and tokens and gaps put together are the text again.
-use Rattle.std.proofs.Common.{◌≡◌, ℕ, ◌+◌, ◌-◌, ◌<◌, ◌≤◌, true, false, List, [], ◌∷◌, ◌++◌, length, get_or, drop, sym, refl, ap, ◌∙◌, subst, add_assoc, arith}
+use Rattle.std.proofs.Common.{◌≡◌, ℕ, ◌+◌, ◌<◌, true, List, [], ◌∷◌, ◌++◌, length, drop, sym, refl, ap, ◌∙◌, subst, arith}
 use Rattle.std.proofs.lemmas.List.{length-append, length-drop}
-use Rattle.signs.specs.Bytes.{blank, Only}
+use Rattle.signs.specs.Bytes.{blank}
 use Rattle.signs.specs.Tokens.{Tok, TokAt, at, Takes, Within}
 use Rattle.signs.specs.Cutting.{Cut, stop, gap, token, FaultHere, nothing_begins, over_limit, Tokenized, Refused, too_long, not_cut}
 use Rattle.signs.specs.Laws.{Assembled, last_gap, next_token, PutTogether, OneVerdict}

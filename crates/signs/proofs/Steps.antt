@@ -1,17 +1,14 @@
 -- From what stands at a place to what comes next in the text.
-use Rattle.std.proofs.Common.{◌≡◌, ℕ, ◌+◌, ◌-◌, ◌<◌, ◌≤◌, true, List, [], ◌∷◌, ◌++◌, length, drop, sym, refl, ap, ◌∙◌, subst, arith}
+use Rattle.std.proofs.Common.{◌≡◌, ℕ, ◌+◌, ◌≤◌, List, [], ◌∷◌, ◌++◌, length, drop, sym, ap, ◌∙◌, subst, arith}
 use Rattle.std.proofs.lemmas.List.{drop_all}
-use Rattle.refusal.specs.declared.Fault.{Fault}
 use Rattle.refusal.specs.Table as table
-use Rattle.signs.specs.declared.token.Placed.{Placed}
 use Rattle.signs.specs.declared.token.Next.{Next}
 use Rattle.signs.specs.declared.token.Next.TheVariants as next
 use Rattle.signs.specs.Bytes.{blank, Only}
-use Rattle.signs.specs.Tokens.{TokAt, at, Takes, Within}
-use Rattle.signs.specs.Cutting.{Cut, stop, gap, token, CutFrom, FaultHere, RefusedFrom}
-use Rattle.signs.specs.Answers.{spelt, placed, NextToken, NoToken, NextFault, Follows}
+use Rattle.signs.specs.Tokens.{TokAt, at}
+use Rattle.signs.specs.Cutting.{Cut, stop, gap, token, FaultHere}
+use Rattle.signs.specs.Answers.{spelt, placed, NoToken, Follows}
 use Rattle.signs.specs.Scanning.{part, Run, Stands}
-use Rattle.signs.proofs.Spelling.{Front}
 use Rattle.signs.proofs.Scans.{run_front, length_part}
 use Rattle.signs.proofs.Once.{Ends, at_end, at_fault, gap_back, token_back, cut_once, fault_some}
 

@@ -1,5 +1,5 @@
 -- What the inner functions of the cutter promise each other; no public call cites this file.
-use Rattle.std.specs.Prelude.{◌≡◌, ℕ, ◌+◌, ◌-◌, ◌<◌, ◌≤◌, Bool, true, false, cond, List, [], ◌∷◌, ◌++◌, length, drop, Some, None, Option, ◌≢◌, slice_index, slice_range}
+use Rattle.std.specs.Prelude.{◌≡◌, ℕ, ◌+◌, ◌<◌, ◌≤◌, Bool, true, false, cond, List, ◌++◌, length, drop, Some, None, Option, ◌≢◌, slice_index, slice_range}
 use Rattle.refusal.specs.Table as table
 use Rattle.signs.specs.declared.byte.Class.{Class}
 use Rattle.signs.specs.declared.byte.Class.TheVariants.{Blank, Letter, Digit, Alphanumeric}
@@ -8,7 +8,7 @@ use Rattle.signs.specs.declared.token.Sign.{Sign}
 use Rattle.signs.specs.declared.token.Next.{Next}
 use Rattle.signs.specs.declared.token.Next.TheVariants as next
 use Rattle.signs.specs.Bytes.{letter, digit, alphanumeric, blank}
-use Rattle.signs.specs.Tokens.{Tok, sign, sign_bytes, Takes, Within}
+use Rattle.signs.specs.Tokens.{Tok, sign_bytes, Takes, Within}
 use Rattle.signs.specs.Cutting.{FaultHere}
 use Rattle.signs.specs.Answers.{spelt, is_word, is_number, is_sign}
 

@@ -1,5 +1,5 @@
 -- The sets of the open store: it starts with every mark, and each field keeps its own set of numbers.
-use Rattle.std.specs.Prelude.{ℕ, Bool, true, false, ◌&&◌, List, [], ◌∷◌, length, set, Decides, ◌==◌, nat_lt, slice_set}
+use Rattle.std.specs.Prelude.{ℕ, Bool, true, false, ◌&&◌, List, [], ◌∷◌, length, Decides, ◌==◌, nat_lt, slice_set}
 use Rattle.marks.specs.Sets.{Marks, Shaped}
 use Rattle.store.specs.declared.row.Row.{Row}
 use Rattle.store.specs.declared.open.OpenStore.{OpenStore}

@@ -99,10 +99,10 @@ fn a_text_too_long(rt: HostRuntime) -> Result<(), Fail> {
     let mut line = [0u8; 128];
     let length = told(&text, &mut line);
     assert!(rt; length <= 128);
-    assert!(rt; &line[0..length] == b"fault 1 1 32768\n");
+    assert!(rt; &line[0..length] == b"fault 1 1 32768\n".as_slice());
     let length = told(&text[0..32768], &mut line);
     assert!(rt; length <= 128);
-    assert!(rt; &line[0..length] == b"fault 1 2 0\n");
+    assert!(rt; &line[0..length] == b"fault 1 2 0\n".as_slice());
     Ok(())
 }
 
@@ -116,7 +116,7 @@ fn tokens_have_places(rt: HostRuntime) -> Result<(), Fail> {
     let Token::Word(spelling) = word.token else {
         return Err(Fail::new("a word"));
     };
-    assert!(rt; spelling == b"box");
+    assert!(rt; spelling == b"box".as_slice());
     let Next::Token(sign) = signs::next(text, word.end) else {
         return Err(Fail::new("a sign"));
     };

@@ -1,4 +1,4 @@
-use Rattle.std.proofs.Common.{◌≡◌, sym, refl, ap, ◌∙◌, subst, arith}
+use Rattle.std.proofs.Common.{sym, ◌∙◌, arith}
 use Rattle.reading.proofs.Marks.{fields_counted, checks_out, checks_in}
 use Rattle.reading.proofs.read_mark.Goals as goal
 

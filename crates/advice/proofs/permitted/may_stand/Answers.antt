@@ -1,4 +1,4 @@
-use Rattle.std.proofs.Common.{◌≡◌, ◌-◌, List, ◌++◌, take, codes, Decides, ap, ◌∙◌, subst, arith}
+use Rattle.std.proofs.Common.{◌≡◌, ◌-◌, ◌++◌, take, codes, Decides, ap, ◌∙◌, subst, arith}
 use Rattle.lines.proofs.Putting.{put_put}
 use Rattle.advice.specs.Permitted.{GoesOn, example_of}
 use Rattle.advice.proofs.permitted.may_stand.Goals as goal

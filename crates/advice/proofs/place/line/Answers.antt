@@ -1,5 +1,4 @@
 use Rattle.advice.proofs.Places.{one_line}
-use Rattle.advice.specs.Places.{line_of}
 use Rattle.advice.proofs.place.line.Goals as goal
 use Rattle.std.proofs.Common.{◌-◌, take, drop}
 

@@ -1,4 +1,4 @@
-use Rattle.std.proofs.Common.{◌≡◌, [], ◌∷◌, ◌++◌, map, length, get_or, take, sym, ap, ◌∙◌, subst, arith, length-take}
+use Rattle.std.proofs.Common.{[], ◌∷◌, ◌++◌, map, take, sym, ap, ◌∙◌, subst, arith, length-take}
 use lib.ListN.{length-map}
 use Rattle.std.proofs.lemmas.List.{map_more, take_all}
 use Rattle.lines.specs.Putting.{Put}

@@ -1,7 +1,5 @@
-use Rattle.std.proofs.Common.{◌≡◌, [], ◌∷◌, sym, refl, ap, ◌∙◌, append-nil}
+use Rattle.std.proofs.Common.{refl, ap}
 use Rattle.walk.specs.Watching.{watch}
-use Rattle.walk.specs.Law as law
-use Rattle.walk.specs.Law.{running}
 use Rattle.client.proofs.Taking.{takes_draw, takes_check, takes_tally}
 use Rattle.client.proofs.act.act.Goals as goal
 

@@ -1,8 +1,7 @@
-use Rattle.std.proofs.Common.{◌≡◌, ℕ, ◌+◌, ◌-◌, ◌≤◌, List, length, take, drop, Ok, sym, ap, ◌∙◌, subst, arith, length-drop}
+use Rattle.std.proofs.Common.{◌≡◌, ℕ, ◌+◌, ◌-◌, ◌≤◌, length, take, drop, Ok, sym, ap, ◌∙◌, subst, arith, length-drop}
 use borrow.Rule.Slice.PartMut.{put_mid, same_len_mid}
 use Rattle.walk.specs.declared.answer.Answer.TheVariants.{Mark}
 use Rattle.std.proofs.lemmas.Slice.{between_to_end}
-use Rattle.sheet.specs.Sheets.{tree_of}
 use Rattle.run.proofs.Tables.{fields_are}
 use Rattle.client.specs.Sessions.{noted}
 use Rattle.client.proofs.Taking.{takes_noted, next_starting, room_for, noted_within}

@@ -1,11 +1,10 @@
 use Rattle.std.proofs.Common.{refl}
-use Rattle.std.proofs.lemmas.Result.{err_from_is_err_and}
 use Rattle.grammar.specs.declared.table.Word.{Word as WordEntry}
 use Rattle.grammar.specs.Syntax.{Word}
 use Rattle.grammar.specs.Grammar.{IsName}
 use Rattle.grammar.specs.Moves.{expects, some_name, names, more_names}
 use Rattle.grammar.specs.Tables.{word_of}
-use Rattle.grammar.proofs.Bracketed.{name_brackets, none_read, reading_first, reading_again, list_read, list_stops, item_stops}
+use Rattle.grammar.proofs.Bracketed.{name_brackets, none_read, reading_first, reading_again, list_read, list_stops}
 use Rattle.grammar.proofs.line.read_names.Goals as goal
 
 pub returns-in-Closing : goal.returns-in-Closing

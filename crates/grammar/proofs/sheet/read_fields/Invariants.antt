@@ -1,4 +1,4 @@
-use Rattle.std.proofs.Common.{◌≡◌, ◌-◌, ◌≤◌, length}
+use Rattle.std.proofs.Common.{◌≡◌, ◌-◌, length}
 use Rattle.grammar.specs.Parsing.{FieldsSoFar}
 use Rattle.grammar.proofs.sheet.read_fields.Given as goal
 

@@ -1,4 +1,4 @@
-use Rattle.std.proofs.Common.{◌≡◌, ◌-◌, ◌≤◌, length}
+use Rattle.std.proofs.Common.{◌-◌, ◌≤◌, length}
 use Rattle.grammar.specs.Parsing.{RulesSoFar}
 use Rattle.grammar.proofs.sheet.read_rules.Given as goal
 

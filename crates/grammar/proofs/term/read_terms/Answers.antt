@@ -1,11 +1,10 @@
 use Rattle.std.proofs.Common.{refl}
-use Rattle.std.proofs.lemmas.Result.{err_from_is_err_and}
 use Rattle.grammar.specs.declared.table.Term.{Term as TermEntry}
 use Rattle.grammar.specs.Syntax.{Term}
 use Rattle.grammar.specs.Grammar.{IsTerm}
 use Rattle.grammar.specs.Moves.{term, terms, more_terms}
 use Rattle.grammar.specs.Tables.{term_of}
-use Rattle.grammar.proofs.Bracketed.{term_brackets, none_read, reading_first, reading_again, list_read, list_stops, item_stops}
+use Rattle.grammar.proofs.Bracketed.{term_brackets, none_read, reading_first, reading_again, list_read, list_stops}
 use Rattle.grammar.proofs.term.read_terms.Goals as goal
 
 pub returns-in-Closing : goal.returns-in-Closing

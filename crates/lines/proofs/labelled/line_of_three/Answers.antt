@@ -1,4 +1,4 @@
-use Rattle.std.proofs.Common.{◌+◌, refl, arith}
+use Rattle.std.proofs.Common.{refl, arith}
 use Rattle.lines.proofs.Putting.{put_put, made_by_put, length_line_of}
 use Rattle.lines.proofs.labelled.line_of_three.Goals as goal
 

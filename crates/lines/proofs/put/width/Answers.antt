@@ -1,4 +1,4 @@
-use Rattle.std.proofs.Common.{◌^◌, ◌<◌, arith}
+use Rattle.std.proofs.Common.{arith}
 use Rattle.std.proofs.lemmas.Fmt.{length-decimal-le}
 use Rattle.lines.proofs.Putting.{length_decimal_digit, length_decimal_step}
 use Rattle.lines.proofs.put.width.Goals as goal

@@ -1,4 +1,4 @@
-use Rattle.std.proofs.Common.{◌≡◌, ℕ, ◌+◌, ◌^◌, ◌<◌, length, decimal}
+use Rattle.std.proofs.Common.{◌≡◌, ◌+◌, ◌^◌, ◌<◌, length, decimal}
 use Rattle.lines.proofs.put.width.Given as goal
 
 abbrev pub invariant-loop-front : goal.invariant-loop-front

@@ -1,4 +1,4 @@
-use Rattle.std.proofs.Common.{map, take, arith}
+use Rattle.std.proofs.Common.{map, take}
 use Rattle.grammar.specs.Tables.{word_of, field_of}
 use Rattle.names.specs.Looking.{field_at}
 use Rattle.names.proofs.Taken.{fields_to, fields_from, field_taken_first, range_first, field_faultless, few_above}

@@ -1,6 +1,4 @@
-use Rattle.std.proofs.Common.{sym, ap, subst, arith, below_more}
-use Rattle.grammar.specs.Tables.{place_of}
-use Rattle.names.specs.Faults.{First}
+use Rattle.std.proofs.Common.{arith, below_more}
 use Rattle.names.proofs.Taken.{own_first, own_field, own_declared, own_none, param_first, names_none, place_at}
 use Rattle.names.proofs.declared.names_fault.Goals as goal
 

@@ -1,4 +1,4 @@
-use Rattle.std.proofs.Common.{◌≡◌, ◌+◌, ◌<◌, ◌≤◌, length, set, Some, sym, refl, ap, ◌∙◌, subst, inl, inr, arith}
+use Rattle.std.proofs.Common.{◌+◌, ◌<◌, length, set, Some, refl, ◌∙◌, inl, inr, arith}
 use Rattle.std.proofs.lemmas.List.{length-set}
 use Rattle.names.proofs.Runs.{run_none, run_settled, run_refused, run_all, outside_set, outside_more, outside_all, goes_at}
 use Rattle.names.proofs.entries.number_entries.Goals as goal

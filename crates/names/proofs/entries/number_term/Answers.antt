@@ -3,7 +3,7 @@ use Rattle.std.proofs.lemmas.Result.{err_from_is_err_and}
 use Rattle.sheet.specs.declared.node.Term.TheVariants.{Number as NumberTerm, Bare as BareTerm, Moved}
 use Rattle.sheet.specs.declared.node.Shift.TheVariants.{Up, Down}
 use Rattle.names.specs.Names.{constant_is, bare_is, raised_is, lowered_is}
-use Rattle.grammar.specs.declared.table.Term.TheVariants.{Constant, Bare, Raised, Lowered}
+use Rattle.grammar.specs.declared.table.Term.TheVariants.{Bare, Raised, Lowered}
 use Rattle.names.specs.Looking.{TermSettled}
 use Rattle.names.proofs.Numbering.{term_refused, term_named, no_uses}
 use Rattle.names.proofs.entries.number_term.Goals as goal

@@ -1,13 +1,11 @@
-use Rattle.std.proofs.Common.{◌≡◌, ℕ, ◌+◌, ◌<◌, ◌≤◌, ◌≢◌, List, [], ◌∷◌, ◌++◌, map, length, get_or, take, set, replicate, Ok, Err, sym, refl, ap, ◌∙◌, subst, ⊎_elim, arith, lit≤}
+use Rattle.std.proofs.Common.{◌≡◌, ℕ, ◌+◌, ◌<◌, ◌≤◌, ◌≢◌, [], map, length, get_or, take, set, replicate, refl, ◌∙◌, subst, ⊎_elim, arith}
 use Rattle.std.proofs.lemmas.Result.{err_from_is_err_and}
 use Rattle.std.proofs.lemmas.List.{take_more, take_more_set, length-set, get_or-set_other, get_or-replicate, get_or_past}
 use Rattle.std.proofs.str.Laws.{order}
 use Rattle.formula.specs.Trees as tree
-use Rattle.grammar.specs.declared.table.Term.{Term as TermEntry}
 use Rattle.grammar.specs.declared.table.Term.TheVariants.{Constant}
-use Rattle.grammar.specs.Syntax.{Rule, Term}
+use Rattle.grammar.specs.Syntax.{Term}
 use Rattle.grammar.specs.Tables.{term_of, fields_of}
-use Rattle.sheet.specs.declared.node.Term.{Term as SheetTerm}
 use Rattle.sheet.specs.declared.node.Term.TheVariants.{Number as SheetNumber}
 use Rattle.sheet.specs.Table.{term_of as number_term}
 use Rattle.names.specs.Lists.{Each, end}
@@ -15,7 +13,6 @@ use Rattle.names.specs.Names.{TermIs}
 use Rattle.names.specs.Faults.{terms_uses}
 use Rattle.names.specs.Looking.{names_of, UsesFault}
 use Rattle.names.proofs.Numbering.{no_uses}
-use Rattle.names.proofs.Ordered.{map_append}
 use Rattle.names.proofs.Terms.{take_split, each_more, terms_more, terms_first}
 use Rattle.names.proofs.entries.number_terms.Goals as goal
 

@@ -1,4 +1,4 @@
-use Rattle.std.proofs.Common.{◌≡◌, ℕ, ◌-◌, ◌≤◌, List, map, length, take}
+use Rattle.std.proofs.Common.{ℕ, ◌-◌, ◌≤◌, List, map, take}
 use Rattle.formula.specs.Trees as tree
 use Rattle.grammar.specs.Syntax.{Rule, Term}
 use Rattle.grammar.specs.Tables.{term_of, fields_of}

@@ -1,4 +1,4 @@
-use Rattle.std.proofs.Common.{◌≡◌, ℕ, ◌-◌, ◌<◌, ◌≤◌, length}
+use Rattle.std.proofs.Common.{◌≡◌, ℕ, ◌-◌, ◌<◌, length}
 use Rattle.sheet.specs.Table.{range_at}
 use Rattle.names.specs.Looking.{field_at}
 use Rattle.names.proofs.layout.ranges_of.Given as goal

@@ -1,4 +1,3 @@
-use Rattle.std.proofs.Common.{arith}
 use Rattle.names.proofs.Covered.{fields_refused, rules_refused, over_refused, mark_answered}
 use Rattle.names.proofs.lines.number_lines.Goals as goal
 

@@ -1,4 +1,4 @@
-use Rattle.std.proofs.Common.{◌≡◌, [], inl, inr, arith}
+use Rattle.std.proofs.Common.{◌≡◌, inl, inr, arith}
 use Rattle.grammar.specs.declared.table.RuleLine.{RuleLine}
 use Rattle.names.specs.Looking.{Alike}
 use Rattle.names.proofs.Lookups.{no_rule_line, stands_at, none_more, none_all}

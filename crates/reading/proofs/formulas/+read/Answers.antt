@@ -1,4 +1,4 @@
-use Rattle.std.proofs.Common.{◌≡◌, ℕ, ◌≤◌, length, ◌∙◌, ap₂, arith, rules}
+use Rattle.std.proofs.Common.{ℕ, ◌≤◌, length, ◌∙◌, ap₂, arith, rules}
 use Rattle.sheet.specs.Keeping.{known_terms}
 use Rattle.reading.proofs.Entries.{parts_as, terms_known, call_kept, numbers_long, numbers_count}
 use Rattle.reading.proofs.Entries.{read_compare, read_uncalled, read_called, read_not, read_not_out}

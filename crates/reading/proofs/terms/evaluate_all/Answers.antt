@@ -1,4 +1,4 @@
-use Rattle.std.proofs.Common.{◌≡◌, ◌<◌, length, arith}
+use Rattle.std.proofs.Common.{arith}
 use Rattle.reading.proofs.Evaluated.{known_at, four_values}
 use Rattle.reading.proofs.terms.evaluate_all.Goals as goal
 

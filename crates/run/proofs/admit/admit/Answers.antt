@@ -1,6 +1,4 @@
-use Rattle.std.proofs.Common.{◌≡◌, ℕ, ◌<◌, ◌≤◌, length, sym, refl, ap, ◌∙◌, subst, arith}
-use Rattle.meaning.specs.Terms.{fields_of}
-use Rattle.sheet.specs.Sheets.{tree_of}
+use Rattle.std.proofs.Common.{◌≡◌, length, sym, refl, ◌∙◌, subst, arith}
 use Rattle.run.specs.Answering.{lists, LongEnough, fields_differ, list_short}
 use Rattle.run.proofs.Tables.{fields_are}
 use Rattle.run.proofs.admit.admit.Goals as goal

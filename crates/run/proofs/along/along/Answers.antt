@@ -1,13 +1,13 @@
-use Rattle.std.proofs.Common.{◌≡◌, ℕ, ◌+◌, ◌*◌, ◌<◌, ◌≤◌, true, false, not, length, take, Some, None, sym, refl, ap, ◌∙◌, subst, arith}
+use Rattle.std.proofs.Common.{◌≡◌, ◌≤◌, true, false, take, Some, None, sym, ◌∙◌, subst, arith}
 use Rattle.marks.specs.Sets.{MarksOf, Empty}
 use Rattle.marks.specs.Counted.{some}
 use Rattle.marks.proofs.Counted.{none_empty}
 use Rattle.meaning.specs.Terms.{rules_of, mark_line, ranges_of, fields_of}
-use Rattle.meaning.specs.Runs.{inside, Ends, Run, mark}
+use Rattle.meaning.specs.Runs.{inside}
 use Rattle.sheet.specs.Sheets.{tree_of}
 use Rattle.run.specs.declared.turn.Turn.TheVariants.{Moved, Dead, Spent, Halted}
 use Rattle.run.specs.Answering.{Inside}
-use Rattle.run.specs.Ways.{way, Took, Fits}
+use Rattle.run.specs.Ways.{way, Fits}
 use Rattle.run.specs.Works.{Worked, Matching, Ending, Finished}
 use Rattle.run.proofs.Settling.{some_alive}
 use Rattle.run.proofs.Tables.{fields_are, few_joins}

@@ -1,4 +1,4 @@
-use Rattle.std.proofs.Common.{◌≡◌, ℕ, ◌<◌, ◌≤◌, length, get_or, sym, refl, ap, ◌∙◌, subst, arith}
+use Rattle.std.proofs.Common.{◌≡◌, ◌<◌, length, get_or, sym, subst, arith}
 use Rattle.run.specs.declared.goal.Argument.TheVariants.{Field}
 use Rattle.run.specs.Frames.{Stands, KnownIn}
 use Rattle.run.proofs.Frames.{argument_at}

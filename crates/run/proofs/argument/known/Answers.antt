@@ -1,4 +1,4 @@
-use Rattle.std.proofs.Common.{◌≡◌, ℕ, ◌<◌, ◌≤◌, ◌≢◌, length, get_or, sym, refl, ap, ◌∙◌, subst, arith}
+use Rattle.std.proofs.Common.{sym, ◌∙◌, subst, arith}
 use Rattle.run.specs.Frames.{Okay, argument_of}
 use Rattle.run.specs.Comparing.{Knows}
 use Rattle.meaning.specs.Matching.{Unknown}

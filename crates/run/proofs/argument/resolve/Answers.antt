@@ -1,7 +1,7 @@
-use Rattle.std.proofs.Common.{◌≡◌, ℕ, ◌<◌, ◌≤◌, Some, None, sym, refl, ap, ◌∙◌, subst}
-use Rattle.run.specs.declared.goal.Argument.TheVariants.{Field, Number}
+use Rattle.std.proofs.Common.{Some, None, sym, refl, subst}
+use Rattle.run.specs.declared.goal.Argument.TheVariants.{Number}
 use Rattle.run.specs.Ways.{way, Fits}
-use Rattle.run.specs.Frames.{Okay, argument_of, arguments_of, TermOkay}
+use Rattle.run.specs.Frames.{arguments_of, TermOkay}
 use Rattle.run.specs.Comparing.{Resolved, Resolving}
 use Rattle.sheet.specs.Table.{name_of, term_of, shift_of}
 use Rattle.run.proofs.Frames.{known_in}

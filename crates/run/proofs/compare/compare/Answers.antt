@@ -1,4 +1,4 @@
-use Rattle.std.proofs.Common.{◌≡◌, true, false, Some, None, sym, refl, ap, ◌∙◌, subst}
+use Rattle.std.proofs.Common.{◌≡◌, true, false, Some, None, sym, ◌∙◌, subst}
 use Rattle.marks.specs.Counted.{some}
 use Rattle.run.specs.Ways.{way}
 use Rattle.sheet.specs.Table.{term_of}

@@ -1,4 +1,4 @@
-use Rattle.std.proofs.Common.{◌≡◌, sym, refl, ap, ◌∙◌, subst}
+use Rattle.std.proofs.Common.{sym, subst}
 use Rattle.marks.specs.Sets.{Shaped}
 use Rattle.run.specs.Frames.{argument_of}
 use Rattle.run.specs.Comparing.{Kept}

@@ -1,8 +1,7 @@
-use Rattle.std.proofs.Common.{◌≡◌, sym, refl, ap, ◌∙◌, subst}
+use Rattle.std.proofs.Common.{sym, refl, subst}
 use Rattle.marks.specs.Sets.{Shaped}
 use Rattle.run.specs.Frames.{argument_of}
 use Rattle.run.specs.Comparing.{KeptRight}
-use Rattle.run.specs.declared.goal.Argument.TheVariants.{Field, Number}
 use Rattle.run.proofs.Leaving.{right_kept, test_kept}
 use Rattle.run.proofs.compare.keep_right.Goals as goal
 

@@ -1,4 +1,4 @@
-use Rattle.std.proofs.Common.{◌≡◌, sym, refl, ap, ◌∙◌, subst}
+use Rattle.std.proofs.Common.{refl}
 use Rattle.run.specs.Ways.{way}
 use Rattle.run.specs.Frames.{argument_of}
 use Rattle.run.proofs.Leaving.{leave_left, leave_right, leave_first, leave_halt, leave_fits}

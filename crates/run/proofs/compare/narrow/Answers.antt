@@ -1,4 +1,4 @@
-use Rattle.std.proofs.Common.{◌≡◌, not, sym, refl, ap, ◌∙◌, subst}
+use Rattle.std.proofs.Common.{not, ap, ◌∙◌}
 use mathlib.Core.Bool.{not-not}
 use Rattle.marks.specs.Counted.{some}
 use Rattle.run.proofs.Settling.{keeps_kept, kept_inside}

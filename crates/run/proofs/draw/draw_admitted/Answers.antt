@@ -1,16 +1,13 @@
-use Rattle.std.proofs.Common.{◌≡◌, ℕ, ◌+◌, ◌-◌, ◌*◌, ◌<◌, ◌≤◌, List, [], ◌∷◌, length, Some, None, sym, refl, ap, ◌∙◌, subst, inr, arith, length-append}
+use Rattle.std.proofs.Common.{◌≡◌, ◌≤◌, ◌∷◌, length, Some, None, sym, refl, ap, ◌∙◌, subst, arith, length-append}
 use Rattle.marks.specs.Sets.{MarksOf}
-use Rattle.meaning.specs.Terms.{fields_of}
-use Rattle.meaning.specs.Runs.{Run}
 use Rattle.meaning.proofs.Lengths.{lengths}
 use Rattle.sheet.specs.Sheets.{tree_of}
 use Rattle.meaning.specs.Traces.{took}
 use Rattle.meaning.specs.Draws.{Takes, Draws, draws, runs_dry, ran, dry}
 use Rattle.run.specs.declared.guide.Guide.TheVariants.{Drawn}
-use Rattle.run.specs.Guides.{numbers, Guided, NoPick}
 use Rattle.run.specs.Answering.{lists, outcome_of}
-use Rattle.run.specs.Ways.{trail, Way, way}
-use Rattle.run.specs.Whole.{Along, end_of, Reported}
+use Rattle.run.specs.Ways.{trail, way}
+use Rattle.run.specs.Whole.{end_of, Reported}
 use Rattle.run.proofs.Ways.{written_at}
 use Rattle.run.proofs.Tables.{fields_are, few_joins}
 use Rattle.run.proofs.Answering.{written_over, along_took, along_halt, numbers_over, guided_takes}

@@ -1,4 +1,4 @@
-use Rattle.std.proofs.Common.{◌≡◌, ℕ, suc, ◌+◌, ◌<◌, ◌≤◌, not, map, length, take, sym, refl, ap, ◌∙◌, subst, add-one, arith}
+use Rattle.std.proofs.Common.{◌≡◌, ◌<◌, not, map, take, sym, refl, ap, ◌∙◌, add-one, arith}
 use mathlib.Core.Bool.{not-not}
 use Rattle.formula.specs.declared.Comparison.TheVariants.{AtLeast, AtMost}
 use Rattle.marks.specs.Sets.{kept}

@@ -1,4 +1,4 @@
-use Rattle.std.proofs.Common.{◌≡◌, ℕ, suc, ◌+◌, ◌-◌, ◌<◌, ◌≤◌, true, length, take, set, Some, None, sym, refl, ap, ◌∙◌, subst, add-one, arith, length-set}
+use Rattle.std.proofs.Common.{◌≡◌, suc, ◌-◌, ◌<◌, true, length, take, set, Some, sym, refl, ◌∙◌, subst, add-one, arith, length-set}
 use Rattle.marks.specs.Counted.{some}
 use Rattle.meaning.specs.Runs.{Ends}
 use Rattle.run.specs.declared.goal.Argument.TheVariants.{Field}

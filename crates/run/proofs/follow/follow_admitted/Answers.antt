@@ -1,12 +1,10 @@
-use Rattle.std.proofs.Common.{◌≡◌, ℕ, ◌+◌, ◌-◌, ◌*◌, ◌<◌, ◌≤◌, List, [], ◌∷◌, length, get_or, Some, None, sym, refl, ap, ◌∙◌, subst, inr, arith}
+use Rattle.std.proofs.Common.{◌≡◌, ◌-◌, ◌≤◌, [], length, Some, None, sym, refl, ap, ◌∙◌, subst, inr, arith}
 use Rattle.marks.specs.Sets.{MarksOf}
-use Rattle.meaning.specs.Terms.{fields_of}
-use Rattle.meaning.specs.Runs.{Run}
 use Rattle.meaning.proofs.Lengths.{lengths}
 use Rattle.sheet.specs.Sheets.{tree_of}
 use Rattle.source.specs.Sources.{on_tape}
 use Rattle.run.specs.declared.guide.Guide.TheVariants.{Recorded}
-use Rattle.run.specs.Guides.{noted, recorded, NoPick, Guided, entries}
+use Rattle.run.specs.Guides.{recorded, NoPick, Guided, entries}
 use Rattle.run.specs.Answering.{lists, outcome_of}
 use Rattle.run.specs.Ways.{trail, Way, way}
 use Rattle.run.specs.Whole.{Along, end_of, Reported}

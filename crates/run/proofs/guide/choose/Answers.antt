@@ -1,4 +1,4 @@
-use Rattle.std.proofs.Common.{◌≡◌, ℕ, suc, ◌+◌, ◌<◌, ◌≤◌, set, sym, refl, ap, ◌∙◌, subst, add-one}
+use Rattle.std.proofs.Common.{set, sym, ap, ◌∙◌, subst, add-one}
 use Rattle.run.specs.Guides.{Picks}
 use Rattle.run.specs.Ways.{choice_of, ahead, trail}
 use Rattle.run.proofs.Guides.{ahead_set}

@@ -1,8 +1,8 @@
-use Rattle.std.proofs.Common.{◌≡◌, ℕ, suc, ◌+◌, ◌-◌, ◌<◌, ◌≤◌, true, length, get_or, set, Some, None, sym, refl, ap, ◌∙◌, subst, add-one, arith, length-set}
+use Rattle.std.proofs.Common.{◌≡◌, suc, ◌+◌, ◌-◌, ◌<◌, ◌≤◌, true, length, get_or, set, Some, sym, refl, ap, ◌∙◌, subst, add-one, arith, length-set}
 use Rattle.marks.specs.Counted.{some}
 use Rattle.sheet.specs.declared.node.Term.TheVariants.{Number}
 use Rattle.run.specs.declared.goal.Frame.{Frame}
-use Rattle.run.specs.Ways.{way, Took, Halt}
+use Rattle.run.specs.Ways.{way, Took}
 use Rattle.sheet.specs.Table.{term_of}
 use Rattle.run.specs.Frames.{arguments_of, FrameOkay, TermOkay}
 use Rattle.run.specs.Comparing.{Resolved}

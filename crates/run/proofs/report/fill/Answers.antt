@@ -1,6 +1,5 @@
-use Rattle.std.proofs.Common.{◌≡◌, ℕ, suc, ◌+◌, ◌<◌, ◌≤◌, ◌++◌, length, get_or, take, drop, set, sym, refl, ap, ◌∙◌, subst, add-one, arith, length-take-le}
+use Rattle.std.proofs.Common.{◌≡◌, ◌+◌, ◌++◌, length, get_or, take, drop, set, sym, ap, ◌∙◌, add-one, arith, length-take-le}
 use lib.Seq.{paste, paste-zero, paste-suc}
-use Rattle.run.specs.Answering.{over}
 use Rattle.run.proofs.report.fill.Goals as goal
 
 pub loop-i-init : goal.loop-i-init

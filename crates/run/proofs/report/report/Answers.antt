@@ -1,4 +1,4 @@
-use Rattle.std.proofs.Common.{◌≡◌, ℕ, ◌≤◌, length, take, drop, Some, sym, refl, ap, ◌∙◌, subst, arith, length-take-le, take_at}
+use Rattle.std.proofs.Common.{◌≡◌, length, take, drop, Some, sym, ap, ◌∙◌, arith, length-take-le, take_at}
 use Rattle.meaning.specs.Runs.{mark}
 use Rattle.run.specs.Answering.{over}
 use Rattle.run.specs.Whole.{end_of}

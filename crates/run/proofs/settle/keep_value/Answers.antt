@@ -1,4 +1,4 @@
-use Rattle.std.proofs.Common.{◌≡◌, ℕ, ◌<◌, sym, refl, ap, ◌∙◌, subst}
+use Rattle.std.proofs.Common.{◌<◌, sym, subst}
 use Rattle.formula.specs.declared.Comparison.TheVariants.{Equal}
 use Rattle.run.proofs.Settling.{keeps_kept, kept_inside, value_small}
 use Rattle.run.proofs.settle.keep_value.Goals as goal

@@ -1,8 +1,7 @@
-use Rattle.std.proofs.Common.{◌≡◌, ℕ, suc, ◌+◌, ◌<◌, ◌≤◌, ◌≢◌, length, Some, None, sym, refl, ap, ◌∙◌, subst, arith}
+use Rattle.std.proofs.Common.{◌<◌, ◌≢◌, length, Some, None, sym, refl, ◌∙◌, subst, arith}
 use Rattle.marks.specs.Counted.{values}
 use Rattle.marks.proofs.Counted.{few_values}
 use Rattle.meaning.specs.Traces.{among}
-use Rattle.run.specs.declared.goal.Argument.TheVariants.{Field, Number}
 use Rattle.run.specs.Frames.{Okay, argument_of}
 use Rattle.run.specs.Ways.{way, Chosen, Fits}
 use Rattle.run.specs.Settling.{Settled, Settling}

@@ -1,4 +1,4 @@
-use Rattle.std.proofs.Common.{◌≡◌, ℕ, ◌<◌, ◌≢◌, Some, sym, refl, ap, ◌∙◌, subst, inl, inr, arith}
+use Rattle.std.proofs.Common.{◌≡◌, ◌≢◌, Some, refl, subst, inl, inr, arith}
 use Rattle.meaning.specs.Traces.{branch}
 use Rattle.run.specs.Ways.{way, Chosen}
 use Rattle.run.proofs.Arms.{both_wants, one_wants}

@@ -1,19 +1,15 @@
-use Rattle.std.proofs.Common.{◌≡◌, ℕ, ◌+◌, ◌-◌, ◌*◌, ◌<◌, ◌≤◌, Bool, true, false, not, ◌≢◌, List, [], ◌∷◌, length, get_or, set, Some, None, sym, refl, ap, ◌∙◌, subst, arith, length-set}
-use mathlib.Core.Bool.{beq}
-use Rattle.marks.specs.Counted.{some}
-use Rattle.meaning.specs.Terms.{rules_of, wants}
-use Rattle.meaning.specs.Traces.{branch}
+use Rattle.std.proofs.Common.{◌-◌, not, length, Some, sym, refl, ap, ◌∙◌, subst, arith, length-set}
+use Rattle.meaning.specs.Terms.{rules_of}
 use Rattle.meaning.specs.Matching.{live, dead, spent}
-use Rattle.meaning.specs.Pending.{goal as goal', Solves}
+use Rattle.meaning.specs.Pending.{Solves}
 use Rattle.meaning.proofs.Counting.{counted}
 use Rattle.sheet.specs.declared.node.Node.TheVariants.{Not, Compare, Pick, Join, Call}
 use Rattle.sheet.specs.Table.{name_of, term_of, line_at, formula_at, whole}
 use Rattle.sheet.specs.Sheets.{tree_of}
-use Rattle.run.specs.Frames.{arguments_of, argument_of}
-use Rattle.run.specs.Ways.{way, Fits, Took, Halt, Chosen}
+use Rattle.run.specs.Ways.{way, Fits, Took, Halt}
 use Rattle.run.specs.Comparing.{Compared}
 use Rattle.run.specs.declared.turn.Turn.TheVariants.{Moved, Spent}
-use Rattle.run.specs.Goals.{Solving, stack, spot, terms, pending, Sided, Entered, Turned}
+use Rattle.run.specs.Goals.{Solving, spot, terms, pending, Sided, Entered, Turned}
 use Rattle.run.proofs.Settling.{some_alive}
 use Rattle.run.proofs.Frames.{known_in}
 use Rattle.run.proofs.Tables.{body_is}

@@ -1,7 +1,6 @@
-use Rattle.std.proofs.Common.{◌≡◌, ℕ, ◌<◌, ◌≤◌, true, sym, refl, ap, ◌∙◌, subst, arith}
+use Rattle.std.proofs.Common.{◌≡◌, true, sym, refl, ap, ◌∙◌, subst, arith}
 use Rattle.marks.specs.Counted.{some}
 use Rattle.meaning.specs.Matching.{dead, spent}
-use Rattle.run.specs.declared.turn.Turn.TheVariants.{Moved, Dead, Spent, Halted}
 use Rattle.run.specs.Ways.{way}
 use Rattle.meaning.specs.Terms.{rules_of, mark_line}
 use Rattle.sheet.specs.Sheets.{tree_of}

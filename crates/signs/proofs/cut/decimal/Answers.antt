@@ -1,4 +1,4 @@
-use Rattle.std.proofs.Common.{◌≡◌, ◌+◌, ◌-◌, ◌<◌, get_or, sym, ap, ◌∙◌, arith, rules}
+use Rattle.std.proofs.Common.{◌+◌, ◌-◌, ◌<◌, get_or, sym, ap, ◌∙◌, arith, rules}
 use Rattle.signs.specs.Bytes.{value_after}
 use Rattle.signs.proofs.Scans.{part_more, digit_more}
 use Rattle.signs.proofs.cut.decimal.Goals as goal

@@ -1,7 +1,7 @@
-use Rattle.std.proofs.Common.{ℕ, ◌+◌, List, [], ◌∷◌, get_or, drop, Some, sym, subst, arith}
+use Rattle.std.proofs.Common.{Some, sym, subst, arith}
 use Rattle.signs.specs.Scanning.{LongestSign}
 use Rattle.signs.proofs.Scans.{two_here, last_here}
-use Rattle.signs.proofs.Spelling.{NoDouble, two_first, one_first, one_byte_left, no_double}
+use Rattle.signs.proofs.Spelling.{two_first, one_first, one_byte_left, no_double}
 use Rattle.signs.proofs.cut.longest_sign.Goals as goal
 use Rattle.signs.proofs.cut.longest_sign.Goals.{then-text-place-gt1+in_default, else-text-place-gt1}
 

@@ -1,4 +1,4 @@
-use Rattle.std.proofs.Common.{◌≡◌, length, sym, refl, ◌∙◌, rules}
+use Rattle.std.proofs.Common.{◌≡◌, length, sym, refl, rules}
 use Rattle.grammar.specs.Tables.{field_of}
 use Rattle.grammar.proofs.Keeping.{field_skipped, field_passes, field_stored}
 use Rattle.grammar.proofs.table.Table.keep_field.Goals as goal

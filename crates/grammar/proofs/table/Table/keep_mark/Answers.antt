@@ -1,4 +1,4 @@
-use Rattle.std.proofs.Common.{◌+◌, ◌≤◌, sym, refl, inl, inr, arith}
+use Rattle.std.proofs.Common.{sym, refl}
 use Rattle.grammar.proofs.Leaves.{not_true}
 use Rattle.grammar.proofs.Keeping.{mark_skipped, mark_passes, mark_stored, not_passing}
 use Rattle.grammar.proofs.table.Table.keep_mark.Goals as goal

@@ -1,6 +1,4 @@
 use Rattle.std.proofs.Common.{◌≡◌, length, sym, refl, inl, inr, rules}
-use Rattle.grammar.specs.Syntax.{rule_line}
-use Rattle.grammar.specs.Tables.{word_of}
 use Rattle.grammar.proofs.Leaves.{not_true}
 use Rattle.grammar.proofs.Keeping.{not_passing, rule_skipped, rule_passes, rule_stored}
 use Rattle.grammar.proofs.table.Table.keep_rule.Goals as goal

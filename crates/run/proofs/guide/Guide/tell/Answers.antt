@@ -1,6 +1,5 @@
-use Rattle.std.proofs.Common.{◌≡◌, ℕ, suc, ◌<◌, ◌≤◌, get_or, sym, refl, ap, ◌∙◌, subst, arith}
+use Rattle.std.proofs.Common.{◌≡◌, suc, ◌<◌, get_or, sym, refl, subst, arith}
 use Rattle.meaning.specs.Traces.{width}
-use Rattle.run.specs.declared.guide.Guide.TheVariants.{Recorded}
 use Rattle.run.specs.Guides.{Picks, NoPick}
 use Rattle.run.specs.Ways.{choice_of, ahead}
 use Rattle.run.proofs.Guides.{entry_tells, entry_unfit}

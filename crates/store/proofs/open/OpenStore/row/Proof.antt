@@ -18,14 +18,13 @@ use contract.BorrowLft.{◌⊑◌}
 use contract.Lifetimes.{AllOutlive}
 use contract.Running.{tables, tables_of}
 use sound.WpLaws.{WpFn-mono}
-use types.Kit.{Item, mean, ‵, ◌⊛◌, raw, some, given, later, ◌$◌, ◌∵◌, !, qed, by, move, keep, use1, drop, split3, join, pick, learn, group, await, now, fsplit, fsplit3, fjoin, suffices, frame, done}
+use types.Kit.{Item, mean, ‵, ◌⊛◌, raw, some, given, later, ◌$◌, ◌∵◌, !, qed, by, move, keep, use1, drop, split3, join, pick, learn, group, await, fsplit, fsplit3, fjoin, suffices, frame, done}
 use types.Run.{size_lit, stop, fld, bin, addr, returns, enter}
 use types.ByLocal.{alloc_all, pass_all, free_all, look_at, get, through, sets}
 use denote.Exit.{yes, no}
 use denote.RattleType.{RattleType, owns}
-use denote.Memory.{part_at, mem}
+use denote.Memory.{part_at}
 use denote.Array.{Array}
-use denote.Index as index
 use denote.Plain.{uint_vals, uint_Tells}
 use denote.Param.{param, layout, layouts}
 use denote.Param.Laws.{Laws, param_laws}
