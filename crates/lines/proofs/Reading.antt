@@ -4,7 +4,7 @@ use Rattle.std.proofs.lemmas.Fmt.{decimal_nonempty, digits_decimal, digits_value
 use Rattle.std.proofs.lemmas.Str.Parse.{IsNumeralModel, numerals_by_fold, tells_all_ascii_digits}
 use Rattle.std.proofs.lemmas.Bool.{and_parts}
 use Rattle.std.specs.Char.{is_ascii_digit}
-use Rattle.std.specs.List.{AllByRecursion as All}
+use Rattle.std.specs.List.{AllByRecursion}
 use Rattle.std.specs.Str.{all_ascii_digits}
 use Rattle.lines.specs.Lines.{further}
 use Rattle.lines.specs.Reading.{numbers_on, numbers_of, ReadBack, LinesDiffer}
@@ -51,7 +51,7 @@ run_decimal n b bs small end =
 further_back :
     (n : ℕ) (ns : List ℕ)
     → n < 2 ^ 64
-    → All (λ k. k < 2 ^ 64) ns
+    → AllByRecursion (λ k. k < 2 ^ 64) ns
     → numbers_of (decimal n ++ further ns) ≡ n ∷ ns
 further_back n [] small all = run_decimal n 10 [] small refl
 further_back n (k ∷ ks) small all =

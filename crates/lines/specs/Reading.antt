@@ -2,7 +2,7 @@
 use Rattle.std.specs.Prelude.{◌≡◌, ℕ, ◌+◌, ◌-◌, ◌*◌, ◌^◌, ◌<◌, cond, List, [], ◌∷◌, ◌++◌, Some, None, Option}
 use Rattle.std.specs.Option.{unwrap_or, option_to_list}
 use Rattle.std.specs.Char.{is_ascii_digit}
-use Rattle.std.specs.List.{AllByRecursion as All}
+use Rattle.std.specs.List.{AllByRecursion}
 use Rattle.lines.specs.Lines.{mark_text}
 
 -- the numbers that stand in the bytes; `begun` is what the digits just before them come to, if there are any
@@ -19,13 +19,13 @@ numbers_of line = numbers_on None line
 
 -- every mark whose numbers fit 64 bits is read back from its line
 abbrev pub ReadBack : Type 0
-ReadBack = (mark : List ℕ) → All (λ n. n < 2 ^ 64) mark → numbers_of (mark_text mark) ≡ mark
+ReadBack = (mark : List ℕ) → AllByRecursion (λ n. n < 2 ^ 64) mark → numbers_of (mark_text mark) ≡ mark
 
 -- no two such marks share a line, the mark of no numbers among them
 abbrev pub LinesDiffer : Type 0
 LinesDiffer =
     (m n : List ℕ)
-    → All (λ k. k < 2 ^ 64) m
-    → All (λ k. k < 2 ^ 64) n
+    → AllByRecursion (λ k. k < 2 ^ 64) m
+    → AllByRecursion (λ k. k < 2 ^ 64) n
     → mark_text m ≡ mark_text n
     → m ≡ n

@@ -1,7 +1,7 @@
 -- Sets of marks, and the numbers that a field takes in one.
 -- A mark is the list of its numbers, one for each field; a set is the test that says which marks are in it.
 use Rattle.std.specs.Prelude.{◌≡◌, ℕ, ◌<◌, Bool, true, ◌&&◌, ◌≢◌, ◌⊎◌, List, [], ◌∷◌, length, slice_index}
-use Rattle.std.specs.List.{AllByRecursion as All}
+use Rattle.std.specs.List.{AllByRecursion}
 use Rattle.formula.specs.declared.Comparison.{Comparison}
 use Rattle.formula.specs.Comparing.{holds}
 
@@ -15,7 +15,7 @@ Empty S = (m : List ℕ) → S m ≢ true
 
 -- a mark of n fields: n numbers, each at most 1,023
 abbrev pub Shaped : ℕ → List ℕ → Type 0
-Shaped n m = (length m ≡ n) × All (λ v. v < 1024) m
+Shaped n m = (length m ≡ n) × AllByRecursion (λ v. v < 1024) m
 
 -- a set of marks of n fields
 abbrev pub MarksOf : ℕ → Marks → Type 0

@@ -2,7 +2,7 @@
 use Rattle.std.proofs.Common.{◌≡◌, ℕ, zero, suc, ◌+◌, ◌<◌, ◌≤◌, true, ◌&&◌, eqb, ◌≢◌, ◌⊎◌, List, [], ◌∷◌, length, get_or, sym, ◌∙◌, subst, inl, inr, not-suc-le-zero, arith, eq-eqb, eqb-true}
 use native.Mathlib.Decide.{ℕ_discrete}
 use mathlib.Core.Bool.{Bool-discrete}
-use Rattle.std.specs.List.{AllByRecursion as All}
+use Rattle.std.specs.List.{AllByRecursion}
 use Rattle.marks.specs.Sets.{Marks, In, Ascending, Values, MarksOf}
 use Rattle.meaning.proofs.Basics.{and_left, and_right, and_both}
 
@@ -131,7 +131,7 @@ abbrev pub Counted : Marks → Type 0
 Counted S = (P : Marks) → ((m : List ℕ) → P m ≡ true → S m ≡ true) → (f : ℕ) → (vs : List ℕ) × Values P f vs
 
 -- a number of a mark, and 0 past its end
-pub small_at : (m : List ℕ) → All (λ v. v < 1024) m → (f : ℕ) → get_or m f 0 < 1024
+pub small_at : (m : List ℕ) → AllByRecursion (λ v. v < 1024) m → (f : ℕ) → get_or m f 0 < 1024
 small_at [] a f = omega arith
 small_at (x ∷ m) a zero = a.0
 small_at (x ∷ m) a (suc f) = small_at m a.1 f

@@ -1,7 +1,7 @@
 -- Marks against the fields of a sheet.
 use Rattle.std.proofs.Common.{◌≡◌, ℕ, suc, ◌+◌, ◌-◌, ◌<◌, ◌≤◌, Bool, true, false, not, ◌&&◌, eqb, List, [], ◌∷◌, length, get_or, take, drop, Option, sym, refl, ap, ◌∙◌, subst, ap₂, subst₂, add-one, arith, drop-cons, le-ltb, lt-ltb}
 use borrow.Author.Tests.{apart_eqb}
-use Rattle.std.specs.List.{AllByRecursion as All}
+use Rattle.std.specs.List.{AllByRecursion}
 use Rattle.std.proofs.lemmas.List.{length-map, length-take-le, get_or-take, get_or-map, at_drop_all}
 use Rattle.formula.specs.declared.Comparison.TheVariants.{AtMost, AtLeast}
 use Rattle.formula.specs.Comparing.{holds}
@@ -43,7 +43,7 @@ module _ (s : Sheet) where
   -- the shape of a mark
 
   pub shaped_when :
-      (m : List ℕ) (b : Bool) → length m ≡ s.field_count → Says b (All Small m)
+      (m : List ℕ) (b : Bool) → length m ≡ s.field_count → Says b (AllByRecursion Small m)
       → Says b (Shaped (fields_of (tree_of s)) m)
   shaped_when m true p a = (p ∙ sym fields_counted, a)
   shaped_when m false p n = λ x. n x.1

@@ -1,6 +1,6 @@
 // A mark against the fields of a sheet: its shape, and the ranges of its numbers.
 ghost use Rattle.std.specs.Prelude.{◌≡◌, length};
-ghost use Rattle.std.specs.List.{AllByRecursion as All};
+ghost use Rattle.std.specs.List.{AllByRecursion};
 ghost use Rattle.marks.specs.Sets.{Shaped};
 ghost use Rattle.meaning.specs.Terms.{fields_of};
 ghost use Rattle.meaning.specs.Reading.{ranged};
@@ -18,7 +18,7 @@ pub(crate) fn is_mark(sheet: &Sheet, mark: &[u16]) -> bool
 
 // Whether each number is at most 1,023.
 fn all_small(mark: &[u16]) -> bool
-    ensures { Says result (All Small mark.now) }
+    ensures { Says result (AllByRecursion Small mark.now) }
 {
     for number in mark {
         if *number > 1023 {

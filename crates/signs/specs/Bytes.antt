@@ -1,6 +1,6 @@
 -- The bytes that may stand in a sheet's text.
 use Rattle.std.specs.Prelude.{◌≡◌, ℕ, ◌+◌, ◌-◌, ◌*◌, Bool, true, ◌&&◌, ◌||◌, List, [], ◌∷◌, ◌==◌, nat_le}
-use Rattle.std.specs.List.{AllByRecursion as All}
+use Rattle.std.specs.List.{AllByRecursion}
 
 -- a small letter, `a` to `z`
 abbrev pub letter : ℕ → Bool
@@ -20,7 +20,7 @@ blank b = b == 32 || b == 10
 
 -- every byte passes the test
 abbrev pub Only : (ℕ → Bool) → List ℕ → Type 0
-Only test bytes = All (λ b. test b ≡ true) bytes
+Only test bytes = AllByRecursion (λ b. test b ≡ true) bytes
 
 -- the number that digits write after the number n
 abbrev pub value_after : ℕ → List ℕ → ℕ

@@ -1,6 +1,6 @@
 -- How long a stream is, how large its numbers are, and how it goes on.
 use Rattle.std.proofs.Common.{◌≡◌, ℕ, zero, suc, ◌-◌, ◌%◌, ◌^◌, ◌<◌, ◌≤◌, ◌∷◌, length, take, refl, ap, arith}
-use Rattle.std.specs.List.{AllByRecursion as All}
+use Rattle.std.specs.List.{AllByRecursion}
 use Rattle.std.proofs.lemmas.Nat.{mod_below}
 use Rattle.source.specs.Xorshift.{xorshift, stream, Streams}
 
@@ -8,7 +8,7 @@ length_stream : (s n : ℕ) → length (stream s n) ≡ n
 length_stream s zero = refl
 length_stream s (suc n) = ap suc (length_stream (xorshift s) n)
 
-small_stream : (s n : ℕ) → All (λ x. x < 2 ^ 32) (stream s n)
+small_stream : (s n : ℕ) → AllByRecursion (λ x. x < 2 ^ 32) (stream s n)
 small_stream s zero = tt
 small_stream s (suc n) = (mod_below (xorshift s) (2 ^ 32) (omega arith), small_stream (xorshift s) n)
 

@@ -1,7 +1,7 @@
 -- The numbers of a seed, by Marsaglia's xorshift64: a list that the seed and the count alone decide,
 -- so that another maker can repeat it.
 use Rattle.std.specs.Prelude.{◌≡◌, ℕ, zero, suc, ◌*◌, ◌/◌, ◌%◌, ◌^◌, ◌<◌, ◌≤◌, List, [], ◌∷◌, length, take, bit_xor}
-use Rattle.std.specs.List.{AllByRecursion as All}
+use Rattle.std.specs.List.{AllByRecursion}
 
 -- x, exclusive or x moved left by k within 64 bits
 abbrev pub xor_left : (k x : ℕ) → ℕ
@@ -30,6 +30,6 @@ pub record Streams (seed count : ℕ) (xs : List ℕ) : Type 0 where
   -- exactly as many numbers as the count says
   pub exact : length xs ≡ count
   -- each below 2^32
-  pub small : All (λ x. x < 2 ^ 32) xs
+  pub small : AllByRecursion (λ x. x < 2 ^ 32) xs
   -- a longer stream goes on from a shorter one
   pub begins : (n : ℕ) → n ≤ count → take n xs ≡ stream seed n

@@ -1,7 +1,7 @@
 -- Proof that the open store's sets are sets of marks; it stands here since a ghost member cites it.
 use Rattle.std.specs.Prelude.{◌≡◌, ℕ, ◌<◌, true, false, List, [], ◌∷◌, length, ◌==◌, nat_lt, slice_index_or, refl}
 use Rattle.std.proofs.Common.{sym}
-use Rattle.std.specs.List.{AllByRecursion as All}
+use Rattle.std.specs.List.{AllByRecursion}
 use Rattle.std.proofs.lemmas.Bool.{and_from, and_parts, eqb-true, eq-eqb, lt-ltb, ltb-true, both_ways}
 use Rattle.marks.specs.Sets.{MarksOf}
 use Rattle.store.specs.declared.row.Row.{Row}
@@ -14,14 +14,14 @@ pub has_small : (r : Row) (v : ℕ) → has r v ≡ true → v < 1024
 unfolding has
 has_small r v e = ltb-true v 1024 (and_parts (nat_lt v 1024) (slice_index_or r.present v false) e).0
 
-pub small_all : (m : List ℕ) → all_small m ≡ true → All (λ v. v < 1024) m
+pub small_all : (m : List ℕ) → all_small m ≡ true → AllByRecursion (λ v. v < 1024) m
 unfolding all_small
 small_all [] e = tt
 small_all (v ∷ m) e =
     let p = and_parts (nat_lt v 1024) (all_small m) e in
     (ltb-true v 1024 p.0, small_all m p.1)
 
-pub all_are_small : (m : List ℕ) → All (λ v. v < 1024) m → all_small m ≡ true
+pub all_are_small : (m : List ℕ) → AllByRecursion (λ v. v < 1024) m → all_small m ≡ true
 unfolding all_small
 all_are_small [] h = refl
 all_are_small (v ∷ m) h = and_from _ _ (lt-ltb v 1024 h.0) (all_are_small m h.1)

@@ -1,5 +1,5 @@
 use Rattle.std.proofs.Common.{ℕ, ◌<◌, List, get_or, subst, arith}
-use Rattle.std.specs.List.{AllByRecursion as All}
+use Rattle.std.specs.List.{AllByRecursion}
 use Rattle.std.proofs.lemmas.List.{take_all}
 use Rattle.std.proofs.ByRecursion.{All-get_or, All-more}
 use Rattle.reading.specs.Steps.{Small}
@@ -19,6 +19,6 @@ loop-number-preserved c =
 
 pub returns : goal.returns
 returns c =
-    subst (λ (l : List ℕ). All Small l)
+    subst (λ (l : List ℕ). AllByRecursion Small l)
     (take_all c.loop-number.number-index c.args.mark.now c.loop-number-test.false)
     c.loop-number.invariant
