@@ -1,4 +1,4 @@
-// Checks one mark against a sheet from standard input: `check FUEL NUMBER ..` prints the plain reading's answer.
+// Checks one mark against a sheet from standard input: `check_mark FUEL NUMBER ..` prints the plain reading's answer.
 #![tactic(auto)]
 
 use reading::{Reading, Verdict};

@@ -13,7 +13,7 @@ use Rattle.grammar.specs.declared.token.Fixed.TheVariants as fixed
 use Rattle.grammar.specs.Syntax.{num}
 use Rattle.grammar.specs.Grammar.{Tok, at, Tokens, IsName, a_name}
 use Rattle.grammar.specs.Tables.{word_of}
-use Rattle.grammar.specs.Moves.{some_name, SomeNumber, some_sign, is_name, is_number, is_sign, is_opening, is_closing, is_semicolon, is_colon, State, expects, Need, Move, asked, Unfinished, Halts, goes_on, halts_token, halts_end, place_of}
+use Rattle.grammar.specs.Moves.{some_name, some_number, some_sign, is_name, is_number, is_sign, is_opening, is_closing, is_semicolon, is_colon, State, expects, Need, Move, asked, Unfinished, Halts, goes_on, halts_token, halts_end, place_of}
 use Rattle.grammar.specs.Parsing.{Left, Says, says_name, says_number, says_sign, says_opening, says_closing, says_semicolon, says_colon, Seen, no_token, a_token, Peeked, Stopped, Came, IsNumber, a_number, IsSign, a_sign, NameRead, NumberRead, SignRead, fixed_class, fixed_shape, FirstIs, first_is, Expected}
 
 pub no : ◌≡◌ {A = ℕ} 0 1 → ⊥
@@ -96,7 +96,7 @@ module _ (text : List ℕ) (p : ℕ) (a : Ahead) (h : Peeked text p a) where
   number_came :
       {m q e : ℕ} {xs : Tokens}
       → Seen text xs (class.Number m) q e
-      → Came text State (expects SomeNumber) (λ s. s) xs e (λ us. IsNumber xs us (num m q))
+      → Came text State (expects some_number) (λ s. s) xs e (λ us. IsNumber xs us (num m q))
   number_came (a_token says_number l) =
       record { rest = _; remains = l; goes = λ s n r k. goes_on (asked is_number) tt k; item = a_number }
 
@@ -110,7 +110,7 @@ module _ (text : List ℕ) (p : ℕ) (a : Ahead) (h : Peeked text p a) where
       {k : Class}
       → ((m : ℕ) → k ≡ class.Number m → ⊥)
       → (s : State)
-      → Stuck text k (expects SomeNumber s)
+      → Stuck text k (expects some_number s)
   no_number z s t i n u (asked is_number) says_number = z _ refl
 
   pub number_stops :
@@ -118,7 +118,7 @@ module _ (text : List ℕ) (p : ℕ) (a : Ahead) (h : Peeked text p a) where
       → f ≡ refused_at a.place
       → ((m : ℕ) → a.class ≡ class.Number m → ⊥)
       → NumberRead text p (Err f)
-  number_stops f e z xs l = stops (expects SomeNumber) f e (h.seen xs l) (λ s. tt) (no_number z)
+  number_stops f e z xs l = stops (expects some_number) f e (h.seen xs l) (λ s. tt) (no_number z)
 
   sign_came :
       {c : Comparison} {q e : ℕ} {xs : Tokens}

@@ -2,7 +2,7 @@
 use Rattle.std.proofs.Common.{ℕ}
 use Rattle.formula.specs.declared.Join.{Join}
 use Rattle.grammar.specs.Grammar.{Tok, name, number, field, rule, mark, not, pick, join, sign, opening, closing, comma, semicolon, colon, plus, minus, Level, only}
-use Rattle.grammar.specs.Moves.{Shape, some_name, SomeNumber, some_sign, field_word, opening_sign, closing_sign, semicolon_sign, colon_sign, Is, is_name, is_number, is_sign, is_field, is_opening, is_closing, is_semicolon, is_colon, of_rule, of_mark, Open, whole, inner, allowance, State, expects, fields, rules, ended, names, more_names, term, summed, terms, more_terms, a_unit, named, more, after_join, numbered, compared_with, Need, NoSum, Move, asked, line_field, no_field, line_rule, line_mark, no_names, first_name, names_end, next_name, term_number, term_name, sum_plus, sum_minus, no_sum, no_terms, first_number, first_term, terms_end, next_term, unit_number, unit_name, unit_not, unit_pick, unit_bracket, unit_call, unit_compares, next_join, bracket_end, rule_end, mark_end, join_number, join_name, join_opens, weight_colon, weight_none}
+use Rattle.grammar.specs.Moves.{Shape, some_name, some_number, some_sign, field_word, opening_sign, closing_sign, semicolon_sign, colon_sign, Is, is_name, is_number, is_sign, is_field, is_opening, is_closing, is_semicolon, is_colon, of_rule, of_mark, Open, whole, inner, allowance, State, expects, fields, rules, ended, names, more_names, term, summed, terms, more_terms, a_unit, named, more, after_join, numbered, compared_with, Need, NoSum, Move, asked, line_field, no_field, line_rule, line_mark, no_names, first_name, names_end, next_name, term_number, term_name, sum_plus, sum_minus, no_sum, no_terms, first_number, first_term, terms_end, next_term, unit_number, unit_name, unit_not, unit_pick, unit_bracket, unit_call, unit_compares, next_join, bracket_end, rule_end, mark_end, join_number, join_name, join_opens, weight_colon, weight_none}
 
 data Shaped (k : Shape) (t : Tok) : Type 0 where
   like_it : Is k t → Shaped k t
@@ -32,8 +32,8 @@ is_of some_name t =
       | plus ↦ unlike (λ i. elim i [ ])
       | minus ↦ unlike (λ i. elim i [ ])
     ]
-is_of SomeNumber t =
-    elim t as (Shaped SomeNumber) [
+is_of some_number t =
+    elim t as (Shaped some_number) [
       | name w ↦ unlike (λ i. elim i [ ])
       | number n ↦ like_it is_number
       | field ↦ unlike (λ i. elim i [ ])

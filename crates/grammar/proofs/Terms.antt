@@ -18,13 +18,13 @@ use Rattle.grammar.proofs.Next.{not_summed}
 use Rattle.grammar.proofs.Leaves.{no, refused_at, Stuck, stops, real, seen_as}
 
 -- what is stopped after an item is stopped before it
-pub then-stops :
+pub then_stops :
     {text : List ℕ} {C : Type 0} {before after : C → State} {xs : Tokens} {q : ℕ} {Item : Tokens → Type 0}
     {f : Fault}
     (v : Came text C before after xs q Item)
     → Stopped text C after v.rest f
     → Stopped text C before xs f
-then-stops v s = record { rest = s.rest; there = s.there; halts = λ c. v.goes c _ _ (s.halts c) }
+then_stops v s = record { rest = s.rest; there = s.there; halts = λ c. v.goes c _ _ (s.halts c) }
 
 -- a token that is no sum leaves a term as it is
 says_no_sum :

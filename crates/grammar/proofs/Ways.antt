@@ -2,7 +2,7 @@
 use Rattle.std.proofs.Common.{ℕ, [], ◌∷◌}
 use Rattle.formula.specs.declared.Comparison.TheVariants.{Equal}
 use Rattle.grammar.specs.Grammar.{Tok, at, Tokens, Level, only, Limits}
-use Rattle.grammar.specs.Moves.{Shape, some_name, SomeNumber, some_sign, field_word, opening_sign, closing_sign, semicolon_sign, colon_sign, is_name, is_number, is_sign, is_field, is_opening, is_closing, is_semicolon, is_colon, of_rule, of_mark, Open, whole, inner, State, expects, fields, rules, ended, names, more_names, term, summed, terms, more_terms, a_unit, named, more, after_join, numbered, free, Move, asked, no_field, line_mark, no_names, names_end, term_number, sum_plus, no_terms, terms_end, unit_number, unit_call, bracket_end, rule_end, mark_end, join_number, weight_none}
+use Rattle.grammar.specs.Moves.{Shape, some_name, some_number, some_sign, field_word, opening_sign, closing_sign, semicolon_sign, colon_sign, is_name, is_number, is_sign, is_field, is_opening, is_closing, is_semicolon, is_colon, of_rule, of_mark, Open, whole, inner, State, expects, fields, rules, ended, names, more_names, term, summed, terms, more_terms, a_unit, named, more, after_join, numbered, free, Move, asked, no_field, line_mark, no_names, names_end, term_number, sum_plus, no_terms, terms_end, unit_number, unit_call, bracket_end, rule_end, mark_end, join_number, weight_none}
 use Rattle.grammar.proofs.Accepts.{Accepts, accepted, takes}
 
 -- tokens that are taken to the end
@@ -16,7 +16,7 @@ module _ (L : Limits) where
 
   any_of : {s : State} (k : Shape) → Way L s → Way L (expects k s)
   any_of some_name w = by (asked (is_name {w = []})) w
-  any_of SomeNumber w = by (asked (is_number {n = 0})) w
+  any_of some_number w = by (asked (is_number {n = 0})) w
   any_of some_sign w = by (asked (is_sign {c = Equal})) w
   any_of field_word w = by (asked is_field) w
   any_of opening_sign w = by (asked is_opening) w
@@ -46,7 +46,7 @@ module _ (L : Limits) where
   way (names s) = by no_names (way s)
   way (more_names s) = by names_end (way s)
   way (term s) = any_term (way s)
-  way (summed s) = by sum_plus (any_of SomeNumber (way s))
+  way (summed s) = by sum_plus (any_of some_number (way s))
   way (terms s) = by no_terms (way s)
   way (more_terms s) = by terms_end (way s)
   way (a_unit d l o) = any_unit (way_more l o)

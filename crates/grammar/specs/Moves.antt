@@ -8,12 +8,12 @@ use Rattle.grammar.specs.Grammar.{Tok, name, number, field, rule, mark, not, pic
 
 -- a token that is asked for by its kind
 pub data Shape : Type 0 where
-  some_name SomeNumber some_sign field_word opening_sign closing_sign semicolon_sign colon_sign : Shape
+  some_name some_number some_sign field_word opening_sign closing_sign semicolon_sign colon_sign : Shape
 
 -- the token is of that kind
 pub data Is : Shape → Tok → Type 0 where
   is_name : {w : List ℕ} → Is some_name (name w)
-  is_number : {n : ℕ} → Is SomeNumber (number n)
+  is_number : {n : ℕ} → Is some_number (number n)
   is_sign : {c : Comparison} → Is some_sign (sign c)
   is_field : Is field_word field
   is_opening : Is opening_sign opening
@@ -59,7 +59,7 @@ pub data State : Type 0 where
 -- after a field line's first word
 abbrev pub field_rest : State
 field_rest =
-    expects some_name (expects SomeNumber (expects SomeNumber (expects semicolon_sign fields)))
+    expects some_name (expects some_number (expects some_number (expects semicolon_sign fields)))
 
 -- a sheet
 abbrev pub start : State
@@ -126,8 +126,8 @@ pub data Move : State → Tok → Need → State → Type 0 where
   -- terms
   term_number : {n : ℕ} {s : State} → Move (term s) (number n) free s
   term_name : {w : List ℕ} {s : State} → Move (term s) (name w) free (summed s)
-  sum_plus : {s : State} → Move (summed s) plus free (expects SomeNumber s)
-  sum_minus : {s : State} → Move (summed s) minus free (expects SomeNumber s)
+  sum_plus : {s : State} → Move (summed s) plus free (expects some_number s)
+  sum_minus : {s : State} → Move (summed s) minus free (expects some_number s)
   no_sum : {t : Tok} {n : Need} {s u : State} → NoSum t → Move s t n u → Move (summed s) t n u
   no_terms : {s : State} → Move (terms s) closing free s
   first_number : {n : ℕ} {s : State} → Move (terms s) (number n) free (more_terms s)
@@ -168,7 +168,7 @@ pub data Move : State → Tok → Need → State → Type 0 where
       → Move (after_join j o) t (level d) u
   weight_colon :
       {j : Join} {o : Open}
-      → Move (numbered j o) colon free (expects SomeNumber (a_unit (allowance o) (only j) o))
+      → Move (numbered j o) colon free (expects some_number (a_unit (allowance o) (only j) o))
   weight_none : {c : Comparison} {j : Join} {o : Open} → Move (numbered j o) (sign c) free (term (more (only j) o))
 
 -- something is still to come

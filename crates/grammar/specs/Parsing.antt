@@ -33,7 +33,7 @@ use Rattle.grammar.specs.Syntax.{Word, word, Number, num, Term, Formula, Field, 
 use Rattle.grammar.specs.Grammar.{Tok, name, number, field, rule, mark, not, pick, join, sign, opening, closing, comma, semicolon, colon, plus, minus, at, Tokens, Parted, Listed, IsName, IsTerm, IsWeights, Level, any, only, Kind, unit, formula, Reads, IsField, IsRule, IsMark, Many}
 use Rattle.grammar.specs.Tokens.{tokens}
 use Rattle.grammar.specs.Tables.{word_of, number_of, term_of, weights_of, node_at, Entries, size, joins, field_of, LinesAbove, Over, Holds}
-use Rattle.grammar.specs.Moves.{Shape, some_name, SomeNumber, some_sign, opening_sign, closing_sign, semicolon_sign, colon_sign, Is, State, expects, names, term, summed, terms, a_unit, named, more, after_join, Line, of_rule, of_mark, Open, whole, allowance, compared_with, fields, rules, ended, start, field_rest, rule_rest, Halts, place_of}
+use Rattle.grammar.specs.Moves.{Shape, some_name, some_number, some_sign, opening_sign, closing_sign, semicolon_sign, colon_sign, Is, State, expects, names, term, summed, terms, a_unit, named, more, after_join, Line, of_rule, of_mark, Open, whole, allowance, compared_with, fields, rules, ended, start, field_rest, rule_rest, Halts, place_of}
 
 -- from place p on the text is cut into the tokens xs
 pub data Left (text : List ℕ) (p : ℕ) : Tokens → Type 0 where
@@ -136,7 +136,7 @@ NameRead text p r =
 
 abbrev pub NumberRead : List ℕ → ℕ → Result (Read NumberEntry) Fault → Type 0
 NumberRead text p r =
-    Outcome text p State (expects SomeNumber) (λ s. s) NumberEntry (λ v xs us. IsNumber xs us (number_of v)) r
+    Outcome text p State (expects some_number) (λ s. s) NumberEntry (λ v xs us. IsNumber xs us (number_of v)) r
 
 abbrev pub SignRead : List ℕ → ℕ → Result (Read Comparison) Fault → Type 0
 SignRead text p r =

@@ -58,9 +58,9 @@ pub(crate) fn line_of_three(
     third: Labelled,
     out: &mut [u8],
 ) -> Result<usize, Refusal>
-    requires label_len_bound { length first.label.now ≤ 16 }
-    requires label_len_bound_2 { length second.label.now ≤ 16 }
-    requires label_len_bound_3 { length third.label.now ≤ 16 }
+    requires first { length first.label.now ≤ 16 }
+    requires second { length second.label.now ≤ 16 }
+    requires third { length third.label.now ≤ 16 }
     ensures { Made (line_of first.entry second.entry third.entry) out.old out.new result }
 {
     if out.len() < first.width() + second.width() + third.width() + 1 {

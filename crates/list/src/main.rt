@@ -13,9 +13,10 @@ use walk::answer::Answer;
 // One byte more than a text may have: enough to see that it is too long.
 const ENOUGH: usize = 32769;
 
-// The fuel of a listing, and how long the lists are that it needs.
+// The fuel of a listing.
 const FUEL: u8 = 255;
 
+// How long the lists are that it needs: of trace entries, of frames and of fields.
 const ENTRIES: usize = 4104;
 
 const FRAMES: usize = 256;

@@ -198,10 +198,10 @@ not_chosen S f v (a ∷ b ∷ vs) k V n h x =
     (λ m' p' q'. (let l : a < b = V.ascending.0 b (inl refl) in
     let e : a ≡ b = sym q ∙ x m p ∙ sym (x m' p') ∙ q' in omega arith)))
 
-get_d_past : (m : List ℕ) (f : ℕ) → length m ≤ f → get_or m f 0 ≡ 0
-get_d_past [] f h = refl
-get_d_past (x ∷ m) zero h = absurd (let z : ⊥ = omega arith in z)
-get_d_past (x ∷ m) (suc f) h = get_d_past m f (omega arith)
+get_or_past : (m : List ℕ) (f : ℕ) → length m ≤ f → get_or m f 0 ≡ 0
+get_or_past [] f h = refl
+get_or_past (x ∷ m) zero h = absurd (let z : ⊥ = omega arith in z)
+get_or_past (x ∷ m) (suc f) h = get_or_past m f (omega arith)
 
 module _ (w : ℕ) where
   abbrev Long : Marks → Type 0
@@ -229,7 +229,7 @@ module _ (w : ℕ) where
       below : Dec (f < w) → f < w
       below (yes p) = p
       below (no q) =
-          absurd (not_chosen S f 0 vs k V n h (λ m g. (let l = long m g in get_d_past m f (omega arith))))
+          absurd (not_chosen S f 0 vs k V n h (λ m g. (let l = long m g in get_or_past m f (omega arith))))
 
       sure :
           (g : ℕ) → Dec (g ≡ f) → with_field K f g ≡ true

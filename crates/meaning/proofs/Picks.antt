@@ -161,13 +161,13 @@ module _ (ρ : Telling) (fair : Fair ρ) where
         )
 
     -- what follows a state
-    unfoldable pub then-on :
+    unfoldable pub then_on :
         (n : ℕ) (G : Formula) → ((k : ℕ) → k ≤ n → At n k G) → (e : List Argument) (b : Bool) (S : Marks)
         → Counted S → (i : State) → fuel_of i ≤ n → Alive i → ((m : List ℕ) → Held i m → S m ≡ true)
         → (ns : List ℕ) → Goes e G b i n ns
-    then-on n G right e b S C (live k P) h x s ns = right k h e b P (counted_part S P C s) x ns
-    then-on n G right e b S C dead h x s ns = ([], dead, ns, stays_dead, told_none, omega arith)
-    then-on n G right e b S C spent h x s ns = ([], spent, ns, stays_spent, told_none, omega arith)
+    then_on n G right e b S C (live k P) h x s ns = right k h e b P (counted_part S P C s) x ns
+    then_on n G right e b S C dead h x s ns = ([], dead, ns, stays_dead, told_none, omega arith)
+    then_on n G right e b S C spent h x s ns = ([], spent, ns, stays_spent, told_none, omega arith)
 
     unfoldable pub joined :
         (n k : ℕ) → k ≤ n → (j : Join) (v w : ℕ) (F G : Formula) → At n k F → ((k : ℕ) → k ≤ n → At n k G)
@@ -183,7 +183,7 @@ module _ (ρ : Telling) (fair : Fair ρ) where
             (_, q.1, q.2, left_side y q.3, f q.0 q.2 q.4, q.5)
         chose y (suc zero) g l f =
             let q = left e (not b) S C x l in
-            let r = then-on n G right e b S C q.1 q.5 (matches_alive rules q.3)
+            let r = then_on n G right e b S C q.1 q.5 (matches_alive rules q.3)
             (λ m h. (sound rules m q.3 h).0) q.2 in (
               _,
               r.1,
@@ -197,7 +197,7 @@ module _ (ρ : Telling) (fair : Fair ρ) where
         go : Dec (b ≡ wants j) → Goes e (join j v w F G) b (live k S) n ns
         go (yes y) =
             let q = left e b S C x ns in
-            let r = then-on n G right e b S C q.1 q.5 (matches_alive rules q.3)
+            let r = then_on n G right e b S C q.1 q.5 (matches_alive rules q.3)
             (λ m h. (sound rules m q.3 h).0) q.2 in
             (q.0 ++ r.0, r.1, r.2, both_sides y q.3 r.3, told_join q.4 r.4, r.5)
         go (no y) =
@@ -251,7 +251,7 @@ module _ (ρ : Telling) (fair : Fair ρ) where
       → (t : Trace) × (a : Outcome) × (l : List ℕ) × Run sh fuel S t a × Told ρ ns t l
   run_told sh fuel S C ns =
       let p = lives_some fuel (inside S (ranges_of sh)) C in
-      let q = then-on (rules_of sh) fuel (mark_line sh) (total (rules_of sh) fuel (mark_line sh)) [] true
+      let q = then_on (rules_of sh) fuel (mark_line sh) (total (rules_of sh) fuel (mark_line sh)) [] true
       (inside S (ranges_of sh)) C p.0 (lives_fuel p.1) (lives_alive p.1)
       (λ m h. (lives_sound p.1 m h).0) ns in
       let r = finishes_told (rules_of sh) (fields_of sh) (inside S (ranges_of sh)) C q.1

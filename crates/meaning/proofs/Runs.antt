@@ -30,17 +30,17 @@ slice : ℕ → ℕ → List ℕ → List ℕ
 slice f zero m = []
 slice f (suc c) m = get_or m f 0 ∷ slice (suc f) c m
 
-slice-cons : (f c x : ℕ) (m : List ℕ) → slice (suc f) c (x ∷ m) ≡ slice f c m
+slice_cons : (f c x : ℕ) (m : List ℕ) → slice (suc f) c (x ∷ m) ≡ slice f c m
 unfolding slice
-slice-cons f zero x m = refl
-slice-cons f (suc c) x m = ap {B = List ℕ} (λ l. get_or m f 0 ∷ l) (slice-cons (suc f) c x m)
+slice_cons f zero x m = refl
+slice_cons f (suc c) x m = ap {B = List ℕ} (λ l. get_or m f 0 ∷ l) (slice_cons (suc f) c x m)
 
 slice_all : (c : ℕ) (m : List ℕ) → length m ≡ c → slice 0 c m ≡ m
 unfolding slice
 slice_all zero [] p = refl
 slice_all zero (x ∷ m) p = absurd (let z : ⊥ = omega arith in z)
 slice_all (suc c) [] p = absurd (let z : ⊥ = omega arith in z)
-slice_all (suc c) (x ∷ m) p = ap {B = List ℕ} (λ l. x ∷ l) (slice-cons 0 c x m ∙ slice_all c m (omega arith))
+slice_all (suc c) (x ∷ m) p = ap {B = List ℕ} (λ l. x ∷ l) (slice_cons 0 c x m ∙ slice_all c m (omega arith))
 
 ends_sound :
     {f c : ℕ} {S P : Marks} {t : Trace} {vs : List ℕ} → Ends f c S t P vs → (m : List ℕ) → P m ≡ true

@@ -22,7 +22,7 @@ use Rattle.meaning.proofs.Boxes.{counted_box}
 use Rattle.meaning.proofs.Draws.{drawn_fair}
 use Rattle.meaning.proofs.Endings.{along, along_fair}
 use Rattle.meaning.proofs.Picks.{empty_dec, lives_some, next_pick, settles_told, resolves_told, passes_told}
-use Rattle.meaning.proofs.Picks.{leaves_told, ends_told, comparison, then-on, joined, step, more, total}
+use Rattle.meaning.proofs.Picks.{leaves_told, ends_told, comparison, then_on, joined, step, more, total}
 use Rattle.meaning.proofs.Picks.{finishes_told, run_told}
 
 -- the run that some numbers tell
@@ -31,7 +31,7 @@ module _ (ρ : Telling) (fair : Fair ρ) where
       (sh : Sheet) (fuel : ℕ) (S : Marks) → Counted (inside S (ranges_of sh)) → (ns : List ℕ)
       → (t : Trace) × (a : Outcome) × (l : List ℕ) × Run sh fuel S t a × Told ρ ns t l
   unfolding counted_box counted_list counted_part unknown_dec along empty_dec lives_some next_pick
-      settles_told resolves_told passes_told leaves_told ends_told comparison then-on joined step more total
+      settles_told resolves_told passes_told leaves_told ends_told comparison then_on joined step more total
       finishes_told run_told
   runs_by sh fuel S C ns = run_told ρ fair sh fuel S C ns
 

@@ -1,5 +1,5 @@
 -- Words of this crate's private contracts: what was found among some lines, and the first fault so far.
-use Rattle.std.specs.Prelude.{◌≡◌, ℕ, ◌+◌, ◌<◌, ◌≤◌, Bool, true, false, ◌⊎◌, List, [], ◌∷◌, ◌++◌, map, length, get_or, take, Some, None, Ok, Err, Option, Result, slice_index_or}
+use Rattle.std.specs.Prelude.{◌≡◌, ℕ, ◌+◌, ◌<◌, ◌≤◌, Bool, true, false, ◌⊎◌, List, [], ◌∷◌, ◌++◌, map, length, take, Some, None, Ok, Err, Option, Result, slice_index_or}
 use Rattle.formula.specs.declared.Comparison.{Comparison}
 use Rattle.formula.specs.declared.Join.{Join}
 use Rattle.formula.specs.Trees as tree
@@ -49,7 +49,7 @@ Alike text v w = spelling (word_of text v) ≡ spelling (word_of text w)
 -- the field line of that number
 abbrev pub field_at : List FieldLine → ℕ → FieldLine
 field_at fields i =
-    get_or fields i
+    slice_index_or fields i
     (record {
       first = 0;
       name = record { place = 0; length = 0 };
@@ -292,7 +292,7 @@ NamesSettled text t l line r =
 -- the rule line of that number
 abbrev pub rule_at : List RuleLine → ℕ → RuleLine
 rule_at rules l =
-    get_or rules l
+    slice_index_or rules l
     (record { first = 0; name = record { place = 0; length = 0 }; params = []; param_count = 0; start = 0; body = 0 })
 
 -- the entries from start to before end are numbered, where the rules rs may be called and ps are the parameters

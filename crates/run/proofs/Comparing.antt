@@ -92,16 +92,16 @@ module _ (e : List Argument) (l : Term) (s : Comparison) (r : Term) (b : Bool) (
       abbrev Then : Trace → Type 0
       Then v = (t : Trace) → Resolves e S l t S₁ (argument_of a) → Comparing e l s r b S (t ++ v)
 
-      then-on : (u : Trace) → Resolving e S₁ r u → (v : Trace) × Then (u ++ v)
-      then-on u m = let k = rest (argument_of a) m.1 p.took.does m.2 in
+      then_on : (u : Trace) → Resolving e S₁ r u → (v : Trace) × Then (u ++ v)
+      then_on u m = let k = rest (argument_of a) m.1 p.took.does m.2 in
           (k.0, λ t n. three n m.2 k.2)
 
       pub two_fits : Fits z (Comparing e l s r b S) → Fits y (Resolving e S₁ r)
-      two_fits h = fits_on {N = Then} then-on (fits_after {N = Then} (λ t u m n. n t m) p.took h)
+      two_fits h = fits_on {N = Then} then_on (fits_after {N = Then} (λ t u m n. n t m) p.took h)
 
       pub two_halt :
           (P : Marks) (y' : Way) → Resolved w e S₁ r y None P y' → Compared w e l s r b S z None P y'
-      two_halt P y' h = halt_after {N = Then} (λ t u m n. n t m) p.took (halt_on {N = Then} then-on h)
+      two_halt P y' h = halt_after {N = Then} (λ t u m n. n t m) p.took (halt_on {N = Then} then_on h)
 
       module _ (c : Held) (S₂ : Marks) (y₂ : Way) (q : Resolved w e S₁ r y (Some c) S₂ y₂) where
         pub three_fits :

@@ -14,7 +14,7 @@ use Rattle.meaning.proofs.Counting.{Counted}
 use Rattle.meaning.proofs.Soundness.{Held, fuel_of}
 use Rattle.meaning.proofs.Soundness.{sound as matched_sound}
 use Rattle.meaning.proofs.Runs.{Alive, matches_alive}
-use Rattle.meaning.proofs.Picks.{then-on, total}
+use Rattle.meaning.proofs.Picks.{then_on, total}
 use Rattle.sheet.specs.declared.node.Node.{Node}
 use Rattle.sheet.specs.declared.table.Sheet.{Sheet}
 use Rattle.sheet.specs.Table.{node_at, line_at, formula_at, whole}
@@ -153,7 +153,7 @@ pub solves_some :
     → ((m : List ℕ) → Held i m → S m ≡ true) → (v : Trace) × (o : State) × Solves rules gs i v o
 solves_some rules [] S C i a h = ([], i, solved)
 solves_some rules (goal e F b ∷ gs) S C i a h =
-    let r = then-on first first_fair rules (fuel_of i) F (total first first_fair rules (fuel_of i) F) e b S C
+    let r = then_on first first_fair rules (fuel_of i) F (total first first_fair rules (fuel_of i) F) e b S C
     i (omega arith) a h [] in
     let q = solves_some rules gs S C r.1 (matches_alive rules r.3)
     (λ m k. h m (matched_sound rules m r.3 k).0) in

@@ -29,8 +29,8 @@ pub(crate) fn argument(frame: Frame, x: Name) -> Argument
 
 // A number with `+` or `-` and another: `+` stops at 1,023 and `-` at 0.
 fn shifted(d: Shift, v: u16) -> u16
-    requires shift_okay { ShiftOkay d }
-    requires v_bound { v < 1024 }
+    requires shift { ShiftOkay d }
+    requires small { v < 1024 }
     ensures { (result ≡ shifted_by (shift_of d) v) × (result < 1024) }
 {
     match d {

@@ -1,7 +1,7 @@
 // What tells a run its picks, and the entries that it writes.
 ghost use Rattle.std.specs.Prelude.{◌≡◌, ℕ, ◌+◌, ◌<◌};
 ghost use Rattle.meaning.specs.Traces.{width as width_of};
-ghost use Rattle.meaning.specs.Draws.{drawn as drawnBy};
+ghost use Rattle.meaning.specs.Draws.{drawn as drawn_by};
 ghost use Rattle.run.specs.Ways.{choice_of, Usable, Tells, trail, Room, way, Chosen};
 
 use source::Source;
@@ -34,7 +34,7 @@ impl Choice {
     // The pick that a number draws.
     fn drawn(self, number: u32) -> u16
         requires { Usable self }
-        ensures { (result ≡ drawnBy number (choice_of self)) × (result < width_of (choice_of self)) }
+        ensures { (result ≡ drawn_by number (choice_of self)) × (result < width_of (choice_of self)) }
     {
         match self {
             Choice::Among(count) => (number % count as u32) as u16,

@@ -1,7 +1,7 @@
 // One goal off the stack.
 ghost use Rattle.std.specs.Prelude.{◌≡◌, ℕ, ◌+◌, ◌<◌, ◌≤◌, true, ◌≢◌, length, slice_set};
 ghost use Rattle.marks.specs.Counted.{some};
-ghost use Rattle.meaning.specs.Terms.{wants as wantsOf, rules_of};
+ghost use Rattle.meaning.specs.Terms.{wants as wants_of, rules_of};
 ghost use Rattle.sheet.specs.Sheets.{tree_of};
 ghost use Rattle.run.specs.Ways.{way, trail, Room, Fits};
 ghost use Rattle.run.specs.Settling.{Narrows};
@@ -38,7 +38,7 @@ pub(crate) enum Turn {
 
 // The target with which a join matches both its sides.
 fn wants(word: Join) -> bool
-    ensures { result ≡ wantsOf word }
+    ensures { result ≡ wants_of word }
 {
     match word {
         Join::And => true,
@@ -82,7 +82,7 @@ fn ask<R: Source>(
     source: &mut R,
 ) -> Option<Sides>
     requires usable { 0 < v + w }
-    requires room { target ≢ wantsOf word → Room 1 (trail picks.old widths.old at.old) }
+    requires room { target ≢ wants_of word → Room 1 (trail picks.old widths.old at.old) }
     ensures { Sided word v w target
         (way guide picks.old widths.old at.old (R.waiting source.old))
         result

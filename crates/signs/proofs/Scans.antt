@@ -19,8 +19,8 @@ part_rest text p q h =
 pub length_part : (text : List ℕ) (p q : ℕ) → p ≤ q → q ≤ length text → length (part text p q) ≡ q - p
 length_part text p q h k = length-take-le (q - p) (drop p text) (omega (arith, length-drop p text))
 
-pub get_d_part : (text : List ℕ) (p q i : ℕ) → i < q - p → get_or (part text p q) i 0 ≡ get_or text (p + i) 0
-get_d_part text p q i h = get_or-take (q - p) (drop p text) i 0 h ∙ get_or-drop p text i 0
+pub get_or_part : (text : List ℕ) (p q i : ℕ) → i < q - p → get_or (part text p q) i 0 ≡ get_or text (p + i) 0
+get_or_part text p q i h = get_or-take (q - p) (drop p text) i 0 h ∙ get_or-drop p text i 0
 
 pub first_here : (text : List ℕ) (p : ℕ) → get_or (drop p text) 0 0 ≡ get_or text p 0
 first_here text p = let n : p + 0 ≡ p = omega arith in get_or-drop p text 0 0 ∙ ap (λ k. get_or text k 0) n
@@ -32,7 +32,7 @@ run_front {test} {text} {p} {q} r =
     record {
       split = part_rest text p q r.from;
       all = All-from_get_or (λ b. test b ≡ true) (part text p q) 0
-          (λ i h. ap test (get_d_part text p q i (omega arith)) ∙ r.all (p + i) (omega arith) (omega (arith, r.from)));
+          (λ i h. ap test (get_or_part text p q i (omega arith)) ∙ r.all (p + i) (omega arith) (omega (arith, r.from)));
       stops = λ h.
           let m : p + (q - p) ≡ q = omega (arith, r.from) in
           let s = r.stops (omega (arith, length-drop p text)) in

@@ -1,7 +1,7 @@
 // The token that comes next in a text.
 ghost use Rattle.std.specs.Prelude.{◌≡◌, ◌+◌, ◌<◌, ◌≤◌, true, false, [], ◌∷◌, length, drop, slice_index};
 ghost use Rattle.signs.specs.Bytes.{letter, digit, blank, value};
-ghost use Rattle.signs.specs.Tokens.{«sign_bytes»};
+ghost use Rattle.signs.specs.Tokens.{sign_bytes};
 ghost use Rattle.signs.specs.Answers.{Follows};
 ghost use Rattle.signs.specs.Scanning.{Run, part, SpeltBy, LongestSign, Stands};
 
@@ -163,7 +163,7 @@ fn double(first: u8, second: u8) -> Option<Sign>
 
 // How many bytes spell a sign.
 fn size(s: Sign) -> usize
-    ensures { result ≡ length («sign_bytes» s) }
+    ensures { result ≡ length (sign_bytes s) }
 {
     match s {
         Sign::Compare(Comparison::Differ | Comparison::AtMost | Comparison::AtLeast) => 2,

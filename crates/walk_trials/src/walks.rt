@@ -74,7 +74,7 @@ fn whole_walks(rt: HostRuntime) -> Result<(), Fail> {
     let mut told = [0u16; 20];
     let sheet = spelt(SHELVES)?;
     assert!(rt; walked(&sheet, &mut OpenStore::new(&sheet), 2, &mut told)? == 10);
-    assert!(rt; &told[0..10] == &[2, 0, 2, 1, 2, 2, 1, 0, 3, 0]);
+    assert!(rt; &told[0..10] == [2, 0, 2, 1, 2, 2, 1, 0, 3, 0].as_slice());
     let sheet = spelt(ODD)?;
     assert!(rt; walked(&sheet, &mut OpenStore::new(&sheet), 2, &mut told)? == 10);
     assert!(rt;
@@ -85,7 +85,7 @@ fn whole_walks(rt: HostRuntime) -> Result<(), Fail> {
     let sheet = spelt(REGISTERED)?;
     let rows = [1, 0, 1, 0, 2, 5];
     assert!(rt; walked(&sheet, &mut RegisterStore::new(&sheet, &rows), 2, &mut told)? == 4);
-    assert!(rt; &told[0..4] == &[1, 0, 2, 5]);
+    assert!(rt; &told[0..4] == [1, 0, 2, 5].as_slice());
     Ok(())
 }
 
