@@ -11,12 +11,12 @@ use sheet::node::Node;
 use sheet::table::Sheet;
 
 // Whether the left side's result decides the join, so that the right side is not read.
-fn decides(join: Join, res: bool) -> bool
-    ensures { MatchBool result (res ≢ wants join) (res ≡ wants join) }
+fn decides(join: Join, outcome: bool) -> bool
+    ensures { MatchBool result (outcome ≢ wants join) (outcome ≡ wants join) }
 {
     match join {
-        Join::And => !res,
-        Join::Or => res,
+        Join::And => !outcome,
+        Join::Or => outcome,
     }
 }
 

@@ -66,10 +66,10 @@ fn read_mark(sheet: &Sheet, mark: &[u16], fuel: u8) -> Reading
 }
 
 // The verdict on a mark in its ranges, by what the mark line reads as; none when it is spent.
-fn verdict_on(res: Option<bool>) -> Verdict
-    ensures { (left : ℕ) → verdict_of result ≡ verdict (answer res left) }
+fn verdict_on(outcome: Option<bool>) -> Verdict
+    ensures { (left : ℕ) → verdict_of result ≡ verdict (answer outcome left) }
 {
-    match res {
+    match outcome {
         Some(true) => Verdict::Allowed,
         Some(false) => Verdict::NotAllowed,
         None => Verdict::Spent,

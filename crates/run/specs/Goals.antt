@@ -1,6 +1,6 @@
 -- For the contracts of inner functions: the stack as goals of the definitions, what the lists hold at each
 -- turn, and what one turn comes to.
-use Rattle.std.specs.Prelude.{◌≡◌, ℕ, zero, suc, ◌+◌, ◌-◌, ◌*◌, ◌<◌, ◌≤◌, Bool, true, false, not, ◌≢◌, ◌⊎◌, List, [], ◌∷◌, ◌++◌, map, length, get_or, take, Some, None, Option, slice_index_or, slice_set}
+use Rattle.std.specs.Prelude.{◌≡◌, ℕ, zero, suc, ◌+◌, ◌-◌, ◌*◌, ◌<◌, ◌≤◌, Bool, true, false, not, ◌≢◌, ◌⊎◌, List, [], ◌∷◌, ◌++◌, map, length, take, Some, None, Option, slice_index_or, slice_set}
 use Rattle.formula.specs.declared.Join.{Join}
 use Rattle.formula.specs.Trees.{Rule}
 use Rattle.formula.specs.Trees.{Term as TermTree}
@@ -105,7 +105,7 @@ pub record Stood (s : Sheet) (fs : List Frame) (used : ℕ) (g : Goal) : Type 0 
   pub line : ℕ
   pub within : Within s.rule_count s.lines line g.formula
   pub frame : g.frame < used
-  pub count : (get_or fs g.frame no_frame).count ≡ (line_at s.lines line).params
+  pub count : (slice_index_or fs g.frame no_frame).count ≡ (line_at s.lines line).params
 
 -- the lists hold what the stack says
 pub record Good (s : Sheet) (p : Spot) : Type 0 where
