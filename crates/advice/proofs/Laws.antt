@@ -1,15 +1,14 @@
 -- Line and column name one place, and the mark stands under it.
 use Rattle.std.proofs.Common.{◌≡◌, ℕ, ◌+◌, ◌-◌, ◌<◌, ◌≤◌, min, cond, List, [], ◌∷◌, map, length, get_or, take, replicate, count_by, sym, ap, ◌∙◌, ⊎_elim, arith, length-take, eq-eqb}
-use lib.ListN.{length-map}
+use lib.ListN.{length-map, length-replicate}
 use Rattle.std.proofs.lemmas.List.Edits.{length-between, get_or-between}
 use Rattle.std.proofs.lemmas.List.{get_or_append_left, get_or_at, get_or-map, take-take}
 use Rattle.std.proofs.lemmas.List.Sums.{count_by_more_yes, sum_by-take-le}
 use Rattle.std.proofs.lemmas.Bool.{cases_lt}
 use Rattle.lines.specs.Lines.{line_feed}
 use Rattle.advice.specs.Laws.{OnePlace, StandsUnder}
-use Rattle.advice.specs.Message.{shown}
+use Rattle.lines.specs.Pieces.{shown}
 use Rattle.advice.specs.Places.{is_line_feed, number_of_line, start_of_line, end_of_line, line_of, column, LineAt}
-use Rattle.advice.proofs.Lengths.{length_blanks}
 use Rattle.advice.proofs.Places.{line_at, one_line}
 
 count_mono :
@@ -84,7 +83,7 @@ stands_under text place =
     let e = end_of_line text place in
     let k = column text place - 1 in
     record {
-      mark = get_or_at (replicate {A = ℕ} k 32) 94 (10 ∷ []) 0 k (length_blanks k);
+      mark = get_or_at (replicate {A = ℕ} k 32) 94 (10 ∷ []) 0 k (length-replicate {A = ℕ} k 32);
       above = λ inside byte.
           let here = length-take place text in
           let before : place < e =

@@ -19,9 +19,6 @@ drop_within text zero = refl
 drop_within [] (suc n) = refl
 drop_within (b ∷ bs) (suc n) = drop_within bs n
 
-pub length_within : (text : List ℕ) (place : ℕ) → length (take place text) ≤ length text
-length_within text place = omega (arith, length-take place text)
-
 leading_yes : (p : ℕ → Bool) (x : ℕ) (xs : List ℕ) → p x ≡ true → prefix_len p (x ∷ xs) ≡ 1 + prefix_len p xs
 leading_yes p x xs passes = rw passes
 

@@ -1,6 +1,7 @@
 -- What the lines of a message are good for.
 use Rattle.std.specs.Prelude.{◌≡◌, ℕ, ◌-◌, ◌<◌, min, ◌≢◌, List, length, slice_index, slice_index_or}
-use Rattle.advice.specs.Message.{shown, shown_text, marker_text}
+use Rattle.lines.specs.Pieces.{shown}
+use Rattle.advice.specs.Message.{shown_text, marker_text}
 use Rattle.advice.specs.Places.{number_of_line, column}
 
 -- line and column name the place: no other place of the text has both

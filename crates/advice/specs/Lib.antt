@@ -3,3 +3,4 @@ pub mod Laws
 pub mod Message
 pub mod Permitted
 pub mod Places
+pub mod Reading

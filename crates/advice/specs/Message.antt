@@ -1,18 +1,15 @@
 -- The lines printed for a person below the line of a fault: where it is, that line of the text, a mark under
 -- the place, and advice.
-use Rattle.std.specs.Prelude.{ℕ, ◌-◌, cond, List, ◌++◌, map, replicate, codes, nat_le}
+use Rattle.std.specs.Prelude.{ℕ, ◌-◌, List, ◌++◌, map, replicate, codes}
 use Rattle.refusal.specs.declared.Refusal.{Refusal}
 use Rattle.lines.specs.Lines.{labelled, line_feed}
+use Rattle.lines.specs.Pieces.{shown}
 use Rattle.advice.specs.Advice.{advice}
 use Rattle.advice.specs.Places.{number_of_line, column, line_of}
 
 -- `line N, column N`
 abbrev pub position_of : ℕ → ℕ → List ℕ
 position_of line col = labelled (codes "line ") line ++ (labelled (codes ", column ") col ++ line_feed)
-
--- a byte as it is shown: `?` stands for all but the printed signs, 32 to 126, so that columns stay aligned
-abbrev pub shown : ℕ → ℕ
-shown b = cond (nat_le 32 b) (cond (nat_le b 126) b 63) 63
 
 -- a line of the text as it is shown
 abbrev pub shown_of : List ℕ → List ℕ

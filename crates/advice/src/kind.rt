@@ -1,8 +1,8 @@
 // The kinds of tokens, each with an example, and with the words that name it to a person.
 ghost use Rattle.std.specs.Prelude.{◌≡◌};
-ghost use Rattle.advice.specs.Permitted.{example_of, kind_text};
+ghost use Rattle.advice.specs.Permitted.{example_of, name_of};
 
-#[derive(Clone, Copy)]
+#[derive(Clone, Copy, Debug, PartialEq, Eq)]
 pub enum Kind {
     Name,
     Number,
@@ -69,28 +69,15 @@ impl Kind {
         }
     }
 
-    // The line that names the kind.
-    pub(crate) fn line(self) -> &'static [u8]
-        ensures { result.now ≡ kind_text self }
+    // The words that name the kind: its token, where it has only one.
+    pub(crate) fn name(self) -> &'static [u8]
+        ensures { result.now ≡ name_of self }
     {
         match self {
-            Kind::Name => b"- a name\n",
-            Kind::Number => b"- a number\n",
-            Kind::Field => b"- field\n",
-            Kind::Rule => b"- rule\n",
-            Kind::Mark => b"- mark\n",
-            Kind::And => b"- and\n",
-            Kind::Or => b"- or\n",
-            Kind::Not => b"- not\n",
-            Kind::Pick => b"- pick\n",
-            Kind::Open => b"- (\n",
-            Kind::Close => b"- )\n",
-            Kind::Comma => b"- ,\n",
-            Kind::Semicolon => b"- ;\n",
-            Kind::Colon => b"- :\n",
-            Kind::Plus => b"- +\n",
-            Kind::Minus => b"- -\n",
-            Kind::Compare => b"- one of = /= < <= > >=\n",
+            Kind::Name => b"a name",
+            Kind::Number => b"a number",
+            Kind::Compare => b"one of = /= < <= > >=",
+            _ => self.example(),
         }
     }
 }

@@ -1,5 +1,6 @@
 // What is printed for a person below a fault: its line and column, that line of the text, a mark under the
-// place, and advice. Each line is made in a buffer of the caller's.
+// place, and advice. Each line is made in a buffer of the caller's. A text and a place are taken apart here, since a
+// caller has the place from a fault: a struct of both would only be made for the call.
 #![tactic(auto)]
 
 ghost use Rattle.lines.specs.Lines.{Made};
@@ -9,13 +10,14 @@ ghost use Rattle.advice.specs.Permitted.{end_text, kind_text};
 ghost use Rattle.advice.specs.Places.{OneLine};
 
 use kind::Kind;
+use lines::Piece::{Blanks, Number, Shown, Text};
+use place::Spot;
 use refusal::Refusal;
 
 pub mod kind;
-mod message;
 pub mod permitted;
 mod place;
-mod put;
+mod reading;
 mod sentence;
 pub mod whole;
 
@@ -24,11 +26,16 @@ pub fn position_line(text: &[u8], place: usize, out: &mut [u8]) -> Result<usize,
     ensures made { Made (position_text text.now place) out.old out.new result }
     ensures one_place { OnePlace text.now place }
 {
-    message::position(
-        place::line_number(text, place),
-        place::column(text, place),
-        out,
-    )
+    let spot = Spot { text, place };
+    // std has no `From<usize>` for `u64`, so both are cast
+    let line = [
+        Text(b"line "),
+        Number(spot.line_number() as u64),
+        Text(b", column "),
+        Number(spot.column() as u64),
+        Text(b"\n"),
+    ];
+    lines::write(&line, out)
 }
 
 // The line of the text in which the place lies, and in no other.
@@ -36,7 +43,8 @@ pub fn shown_line(text: &[u8], place: usize, out: &mut [u8]) -> Result<usize, Re
     ensures made { Made (shown_text text.now place) out.old out.new result }
     ensures one_line { OneLine text.now place }
 {
-    message::shown(place::line(text, place), out)
+    let line = Spot { text, place }.line();
+    lines::write(&[Shown(line), Text(b"\n")], out)
 }
 
 // A mark `^`, which stands under the place when printed below its line.
@@ -44,26 +52,27 @@ pub fn marker_line(text: &[u8], place: usize, out: &mut [u8]) -> Result<usize, R
     ensures made { Made (marker_text text.now place) out.old out.new result }
     ensures stands_under { StandsUnder text.now place }
 {
-    message::marker(place::column(text, place), out)
+    let column = Spot { text, place }.column();
+    lines::write(&[Blanks(column - 1), Text(b"^\n")], out)
 }
 
 // What is wrong, and what would be right.
 pub fn advice_line(refusal: Refusal, out: &mut [u8]) -> Result<usize, Refusal>
     ensures { Made (advice_text refusal) out.old out.new result }
 {
-    message::whole(sentence::about(refusal), out)
+    lines::write(&[Text(sentence::about(refusal)), Text(b"\n")], out)
 }
 
 // The name of a kind of token, for a list of what may stand at a place.
 pub fn kind_line(kind: Kind, out: &mut [u8]) -> Result<usize, Refusal>
     ensures { Made (kind_text kind) out.old out.new result }
 {
-    message::whole(kind.line(), out)
+    lines::write(&[Text(b"- "), Text(kind.name()), Text(b"\n")], out)
 }
 
 // That the text may end there, for the same list.
 pub fn end_line(out: &mut [u8]) -> Result<usize, Refusal>
     ensures { Made end_text out.old out.new result }
 {
-    message::whole(b"- the end of the text\n", out)
+    lines::write(&[Text(b"- the end of the text\n")], out)
 }

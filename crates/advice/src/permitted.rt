@@ -3,7 +3,8 @@ ghost use Rattle.std.specs.Prelude.{Decides};
 ghost use Rattle.advice.specs.Permitted.{GoesOn, Tried};
 
 use crate::kind::Kind;
-use crate::put;
+use crate::reading::read;
+use lines::Piece::Text;
 use refusal::Refusal;
 
 // A blank and the longest example.
@@ -13,10 +14,7 @@ const LONGEST: usize = 6;
 pub fn goes_on(text: &[u8]) -> bool
     ensures { Decides result (GoesOn text.now) }
 {
-    if let Err(_) = signs::survey(text) {
-        return false;
-    }
-    match grammar::parse(text) {
+    match read(text) {
         Ok(_) => true,
         Err(fault) => fault.place == text.len(),
     }
@@ -27,12 +25,13 @@ pub fn goes_on(text: &[u8]) -> bool
 pub fn may_stand(before: &[u8], kind: Kind, trial: &mut [u8]) -> Result<bool, Refusal>
     ensures { Tried before.now kind trial.old trial.new result }
 {
-    let room = trial.len();
-    if room < LONGEST || room - LONGEST < before.len() {
+    let room = trial
+        .len()
+        .checked_sub(LONGEST)
+        .ok_or(Refusal::BufferTooShort)?;
+    if room < before.len() {
         return Err(Refusal::BufferTooShort);
     }
-    let at = put::bytes(trial, 0, before);
-    let at = put::bytes(trial, at, b" ");
-    let at = put::bytes(trial, at, kind.example());
-    Ok(goes_on(&trial[0..at]))
+    let end = lines::write(&[Text(before), Text(b" "), Text(kind.example())], trial)?;
+    Ok(goes_on(&trial[..end]))
 }

@@ -1,73 +1,64 @@
 // The line of a text in which a place lies, and the column of the place.
-ghost use Rattle.std.specs.Prelude.{◌≡◌, ◌≤◌, length, take, count_by};
+ghost use Rattle.std.specs.Prelude.{◌≡◌, ◌≤◌, length, take};
 ghost use Rattle.advice.specs.Laws.{OnePlace, StandsUnder};
-ghost use Rattle.advice.specs.Places.{OneLine, column, is_line_feed, end_of_line, number_of_line, line_of, start_of_line};
+ghost use Rattle.advice.specs.Places.{OneLine, column, end_of_line, number_of_line, line_of, start_of_line};
 
-// A place past the end of the text counts as its end.
-fn within(text: &[u8], place: usize) -> usize
-    ensures value { result ≡ length (take place text.now) }
-    ensures bound { result ≤ length text.now }
-{
-    place.min(text.len())
+// A place of a text. One past the end of the text counts as its end.
+#[derive(Clone, Copy)]
+pub(crate) struct Spot<'a> {
+    pub(crate) text: &'a [u8],
+    pub(crate) place: usize,
 }
 
-fn line_feeds(bytes: &[u8]) -> usize
-    ensures value { result ≡ count_by is_line_feed bytes.now }
-    ensures bound { result ≤ length bytes.now }
-{
-    let mut count = 0;
-    for byte in bytes {
-        if *byte == b'\n' {
-            count += 1;
-        }
+impl<'a> Spot<'a> {
+    fn within(self) -> usize
+        ensures value { result ≡ length (take self.entry.place self.entry.text.now) }
+        ensures bound { result ≤ length self.entry.text.now }
+    {
+        self.place.min(self.text.len())
     }
-    count
-}
 
-pub(crate) fn line_number(text: &[u8], place: usize) -> usize
-    ensures { result ≡ number_of_line text.now place }
-{
-    let end = within(text, place);
-    line_feeds(&text[0..end]) + 1
-}
-
-// Where the place's line begins.
-fn line_start(text: &[u8], place: usize) -> usize
-    ensures { result ≡ start_of_line text.now place }
-{
-    let mut start = within(text, place);
-    while start > 0 && text[start - 1] != b'\n' {
-        start -= 1;
+    // The number of the place's line.
+    pub(crate) fn line_number(self) -> usize
+        ensures { result ≡ number_of_line self.entry.text.now self.entry.place }
+    {
+        let before = &self.text[..self.within()];
+        before.iter().filter(|byte| **byte == b'\n').count() + 1
     }
-    start
-}
 
-// Where it ends, before its line feed.
-fn line_end(text: &[u8], place: usize) -> usize
-    ensures value { result ≡ end_of_line text.now place }
-    ensures bound { result ≤ length text.now }
-{
-    let mut end = within(text, place);
-    while end < text.len() && text[end] != b'\n' {
-        end += 1;
+    // Where the place's line begins.
+    fn line_start(self) -> usize
+        ensures value { result ≡ start_of_line self.entry.text.now self.entry.place }
+        ensures bound { result ≤ length (take self.entry.place self.entry.text.now) }
+    {
+        let end = self.within();
+        let before = self.text[..end].iter().rev();
+        end - before.take_while(|byte| **byte != b'\n').count()
     }
-    end
-}
 
-pub(crate) fn column(text: &[u8], place: usize) -> usize
-    ensures value { result ≡ column text.now place }
-    ensures one_place { OnePlace text.now place }
-    ensures stands_under { StandsUnder text.now place }
-{
-    within(text, place) - line_start(text, place) + 1
-}
+    // Where it ends, before its line feed.
+    fn line_end(self) -> usize
+        ensures value { result ≡ end_of_line self.entry.text.now self.entry.place }
+        ensures bound { result ≤ length self.entry.text.now }
+    {
+        let start = self.within();
+        let after = self.text[start..].iter();
+        start + after.take_while(|byte| **byte != b'\n').count()
+    }
 
-// The bytes of the place's line.
-pub(crate) fn line(text: &[u8], place: usize) -> &[u8]
-    ensures bytes { result.now ≡ line_of text.now place }
-    ensures one_line { OneLine text.now place }
-{
-    let start = line_start(text, place);
-    let end = line_end(text, place);
-    &text[start..end]
+    pub(crate) fn column(self) -> usize
+        ensures value { result ≡ column self.entry.text.now self.entry.place }
+        ensures one_place { OnePlace self.entry.text.now self.entry.place }
+        ensures stands_under { StandsUnder self.entry.text.now self.entry.place }
+    {
+        self.within() - self.line_start() + 1
+    }
+
+    // The bytes of the place's line.
+    pub(crate) fn line(self) -> &'a [u8]
+        ensures bytes { result.now ≡ line_of self.entry.text.now self.entry.place }
+        ensures one_line { OneLine self.entry.text.now self.entry.place }
+    {
+        &self.text[self.line_start()..self.line_end()]
+    }
 }

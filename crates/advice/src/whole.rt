@@ -2,15 +2,11 @@
 ghost use Rattle.std.specs.Prelude.{Decides};
 ghost use Rattle.advice.specs.Permitted.{WholeSheet};
 
+use crate::reading::read;
+
 // Whether a text has the lines of a whole sheet, and nothing after them.
 pub fn is_whole(text: &[u8]) -> bool
     ensures { Decides result (WholeSheet text.now) }
 {
-    if let Err(_) = signs::survey(text) {
-        return false;
-    }
-    match grammar::parse(text) {
-        Ok(_) => true,
-        Err(_) => false,
-    }
+    read(text).is_ok()
 }

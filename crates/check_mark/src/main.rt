@@ -11,15 +11,11 @@ use streams::put;
 // One byte more than a text may have: enough to see that it is too long.
 const ENOUGH: usize = 32769;
 
-// One number more than a mark may have: enough to see that there are too many.
-const NUMBERS: usize = 9;
-
 // What the arguments ask for.
 #[derive(Drop)]
 struct Asked {
     fuel: u8,
-    mark: [u16; NUMBERS],
-    count: usize,
+    mark: Vec<u16>,
 }
 
 fn main(rt: HostRuntime) -> io::Result<()> {
@@ -27,12 +23,14 @@ fn main(rt: HostRuntime) -> io::Result<()> {
         eprintln!(rt; "usage: check FUEL NUMBER ..  < SHEET")?;
         return Err(io::Error::other("no fuel, or a word that is no number"));
     };
+    // Each program reads its text by these lines: a function of a library for them would allocate.
     let mut text = vec![in rt.alloc(); 0u8; ENOUGH]?;
     let size = streams::fill(&mut rt.stdin(), &mut text)?;
+    text.truncate(size);
     let mut line = [0u8; 64];
     let mut sheet = Sheet::blank();
-    let made = match names::read(&text[0..size], &mut sheet) {
-        Ok(_) => told(answer(&sheet, asked), &mut line),
+    let made = match names::read(&text, &mut sheet) {
+        Ok(_) => told(reading::check(&sheet, &asked.mark, asked.fuel), &mut line),
         Err(fault) => lines::fault_line(fault, &mut line),
     };
     let mut out = BufWriter::new(rt.alloc(), rt.stdout())?;
@@ -40,46 +38,28 @@ fn main(rt: HostRuntime) -> io::Result<()> {
     out.flush()
 }
 
-// The arguments: a fuel, and then the mark's numbers.
+// The arguments: a fuel, and then the mark's numbers; none where a word is no number, which is told apart from
+// arguments that cannot be read.
 fn arguments(rt: &HostRuntime) -> io::Result<Option<Asked>> {
-    let mut fuel = None;
-    let mut mark = [0u16; NUMBERS];
-    let mut count: usize = 0;
-    for word in env::args(rt)?.skip(1) {
-        if fuel.is_none() {
-            let Ok(n) = word.as_str().parse::<u8>() else {
-                return Ok(None);
-            };
-            fuel = Some(n);
-        } else {
-            let Ok(n) = word.as_str().parse::<u16>() else {
-                return Ok(None);
-            };
-            if count < NUMBERS {
-                mark[count] = n;
-                count += 1;
-            }
-        }
+    let mut words = env::args(rt)?.skip(1);
+    let Some(fuel) = words.next().and_then(|word| word.as_str().parse().ok()) else {
+        return Ok(None);
+    };
+    let mut mark = Vec::new(rt.alloc());
+    for word in words {
+        let Ok(number) = word.as_str().parse() else {
+            return Ok(None);
+        };
+        mark.push(number)?;
     }
-    match fuel {
-        Some(fuel) => Ok(Some(Asked { fuel, mark, count })),
-        None => Ok(None),
-    }
-}
-
-fn answer(sheet: &Sheet, asked: Asked) -> Result<Reading, Refusal> {
-    let Asked { fuel, mark, count } = asked;
-    if count > NUMBERS {
-        return Err(Refusal::NotAMark);
-    }
-    reading::check(sheet, &mark[0..count], fuel)
+    Ok(Some(Asked { fuel, mark }))
 }
 
 // Makes the line of an answer.
 fn told(answer: Result<Reading, Refusal>, line: &mut [u8]) -> Result<usize, Refusal> {
     match answer {
         Ok(read) => {
-            let calls = read.calls as u64;
+            let calls = u64::from(read.calls);
             match read.verdict {
                 Verdict::Allowed => lines::allowed_line(calls, line),
                 Verdict::NotAllowed => lines::not_allowed_line(calls, line),

@@ -2,3 +2,4 @@ mod Two
 pub mod Lists
 pub mod Taking
 pub mod Conducting
+pub mod Lending

@@ -1,8 +1,9 @@
 -- Calls that take a session on: none, one call, and calls after calls.
-use Rattle.std.proofs.Common.{◌≡◌, ℕ, ◌+◌, ◌-◌, ◌<◌, ◌≤◌, ◌||◌, List, [], ◌∷◌, ◌++◌, length, get_or, take, drop, Ok, Err, Result, sym, refl, ap, ◌∙◌, subst, append_assoc, append-nil, add-zero, add_assoc, arith, length-append, length-take-le}
+use Rattle.std.proofs.Common.{◌≡◌, ℕ, ◌+◌, ◌-◌, ◌<◌, ◌≤◌, ◌||◌, List, [], ◌∷◌, ◌++◌, length, get_or, take, drop, Ok, Err, Result, sym, refl, ap, ◌∙◌, subst, append_assoc, append-nil, add-zero, add_assoc, arith, length-append, length-drop, length-take-le}
 use mathlib.Core.Bool.{or-false, or-true, or_assoc}
 use Rattle.std.proofs.lemmas.List.{take_more}
-use borrow.Rule.Slice.PartMut.{put_mid}
+use Rattle.std.proofs.lemmas.Slice.{between_to_end}
+use borrow.Rule.Slice.PartMut.{put_mid, same_len_mid}
 use Rattle.formula.specs.Trees.{Sheet}
 use Rattle.refusal.specs.declared.Refusal.{Refusal}
 use Rattle.meaning.specs.Terms.{fields_of}
@@ -148,7 +149,7 @@ takes_noted s n f v v' x r t t' list marks d h e l p is =
     (takes_next s n f v v' x r t list marks d h e l p)
 
 -- a next that issues a mark found room for it
-pub room_for :
+room_for :
     (s : Sheet) (n : ℕ) (v v' : Watched) (x : Lent) (r : Result Answer Refusal) (marks : List ℕ)
     → Nexts s n v x r v' marks
     → r ≡ Ok answer.Mark
@@ -157,6 +158,21 @@ room_for s n v v' x r marks p is =
     let q = subst (λ (z : Result Answer Refusal). Nexts s n v x z v' marks) is p in
     let e = q.agree in
     let room = q.roomy.mark in
+    omega arith
+
+-- and in the list of marks, whose rest it was lent, for a sheet of f fields
+pub room_left :
+    (s : Sheet) (n f : ℕ) (v v' : Watched) (x : Lent) (r : Result Answer Refusal) (marks list : List ℕ) (k : ℕ)
+    → Nexts s n v x r v' marks
+    → fields_of s ≡ f
+    → x.marks ≡ take (length list - k) (drop k list)
+    → k ≤ length list
+    → r ≡ Ok answer.Mark
+    → k + f ≤ length list
+room_left s n f v v' x r marks list k p fields lent h is =
+    let wide : length x.marks ≡ length list - k =
+    ap length lent ∙ ap length (between_to_end list k (length list) (omega arith)) ∙ length-drop k list in
+    let room = room_for s n v v' x r marks p is in
     omega arith
 
 -- so the entries that are filled afterwards stand in the list
@@ -171,16 +187,20 @@ noted_within f (Ok answer.Spent) t k h g = h
 noted_within f (Ok answer.Finished) t k h g = h
 noted_within f (Err e) t k h g = h
 
--- a next leaves the starting set
-pub next_starting :
-    (s : Sheet) (n : ℕ) (v v' : Watched) (x : Lent) (r : Result Answer Refusal) (marks : List ℕ)
-    → Nexts s n v x r v' marks
-    → v'.starting ≡ v.starting
-next_starting s n v v' x (Ok answer.Mark) marks p = ap (λ q. q.starting) p.replies.after
-next_starting s n v v' x (Ok answer.DeadEnd) marks p = ap (λ q. q.starting) p.replies.after
-next_starting s n v v' x (Ok answer.Spent) marks p = ap (λ q. q.starting) p.replies.after
-next_starting s n v v' x (Ok answer.Finished) marks p = ap (λ q. q.starting) p.replies.after
-next_starting s n v v' x (Err e) marks p = ap (λ q. q.starting) p.same_walk
+-- also in a list whose lent part came back
+pub noted_room :
+    (f : ℕ) (r : Result Answer Refusal) (t t' : Taken) (list back : List ℕ)
+    → t' ≡ noted f r t
+    → length back ≡ length (take (length list - t.entries) (drop t.entries list))
+    → t.entries ≤ length list
+    → (r ≡ Ok answer.Mark → t.entries + f ≤ length list)
+    → t'.entries ≤ length (put_mid t.entries (length list - t.entries) list back)
+noted_room f r t t' list back is long h fits =
+    let k = t.entries in
+    let m = length list - k in
+    let all : length (put_mid k m list back) ≡ length list = same_len_mid k m list back long in
+    subst (λ (q : ℕ). q ≤ length (put_mid k m list back)) (sym (ap (λ q. q.entries) is))
+    (subst (λ (q : ℕ). (noted f r t).entries ≤ q) (sym all) (noted_within f r t (length list) h fits))
 
 -- a draw, over a store that keeps its starting set
 pub takes_draw :

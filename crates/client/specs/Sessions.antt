@@ -1,6 +1,6 @@
 -- A session: a walk is started, and calls are made on it in an order that is given as a list. What it leaves is
 -- told by a history of those calls, and by what the law of the walk says of every history.
-use Rattle.std.specs.Prelude.{◌≡◌, ℕ, ◌+◌, ◌<◌, Bool, true, false, ◌||◌, List, [], ◌∷◌, ◌++◌, length, take, drop, Some, None, Ok, Err, Option, Result, slice_index_or}
+use Rattle.std.specs.Prelude.{◌≡◌, ℕ, ◌+◌, ◌<◌, Bool, true, false, ◌&&◌, ◌||◌, List, [], ◌∷◌, ◌++◌, length, take, drop, Some, None, Ok, Err, Option, Result, slice_index_or}
 use Rattle.formula.specs.Trees.{Sheet}
 use Rattle.marks.specs.Sets.{Marks}
 use Rattle.refusal.specs.declared.Refusal.{Refusal}
@@ -12,16 +12,17 @@ use Rattle.run.specs.Answering.{Lists, setting, AnswersDraw}
 use Rattle.walk.specs.declared.answer.Answer.{Answer}
 use Rattle.walk.specs.declared.answer.Answer.TheVariants as answer
 use Rattle.walk.specs.declared.answer.Tallies.{Tallies}
+use Rattle.std.specs.declared.ops.ControlFlow.{ControlFlow}
+use Rattle.std.specs.declared.ops.ControlFlow.TheVariants.{Continue, Break}
+use Rattle.walk.specs.declared.state.Walk.{Walk}
 use Rattle.walk.specs.Watching.{Watched, watch, Fresh}
-use Rattle.walk.specs.Calls.{Reply, gives, finished}
+use Rattle.walk.specs.Calls.{Reply, gives, finished, Lent, Nexts}
 use Rattle.walk.specs.Law as law
 use Rattle.walk.specs.Law.{History, Stage, running, closed, outcomes, marks_in, counts, Among, AllDiffer, defined}
 use Rattle.client.specs.declared.call.Call.{Call}
 use Rattle.client.specs.declared.call.Call.TheVariants as call
 use Rattle.client.specs.declared.call.Taken.{Taken}
 use Rattle.client.specs.declared.call.Session.{Session}
-use Rattle.client.specs.declared.call.Turned.{Turned}
-use Rattle.client.specs.declared.call.Turned.TheVariants as turned
 
 -- the calls of a history, in order
 abbrev pub calls_of : {s : Sheet} {n : ℕ} {w : Watched} {z : Stage} → History s n w z → List Call
@@ -81,9 +82,9 @@ noted n (Ok answer.Finished) t = record { entries = t.entries; finished = true }
 noted n (Err e) t = t
 
 -- how a session stands after a call, with the starting set and the trace lists
-abbrev pub stage_of : Turned → Marks → (picks widths : List ℕ) → Stage
-stage_of (turned.On w) S ps ws = running (watch w S ps ws)
-stage_of (turned.Closed k) S ps ws = closed k
+abbrev pub stage_of : ControlFlow Tallies Walk → Marks → (picks widths : List ℕ) → Stage
+stage_of (Continue w) S ps ws = running (watch w S ps ws)
+stage_of (Break k) S ps ws = closed k
 
 -- a draw with that fuel was made over a store of n fields with that starting set
 pub record Draws (s : Sheet) (n : ℕ) (starting : Marks) (fuel : ℕ) : Type 0 where
@@ -136,3 +137,28 @@ pub record Conducted
       → S m ≡ true
       → Allowed s fuel m
       → Among m (law.issued history)
+
+-- whether a next issued a mark
+abbrev pub issues : Result Answer Refusal → Bool
+issues (Ok answer.Mark) = true
+issues (Ok answer.DeadEnd) = false
+issues (Ok answer.Spent) = false
+issues (Ok answer.Finished) = false
+issues (Err e) = false
+
+-- whether two nexts of a fresh walk both issued a mark, over a store of n fields with the starting set S; they leave
+-- their mark lists as these
+pub record TwoNexts (s : Sheet) (n fuel : ℕ) (S : Marks) (both : Bool) (first second : List ℕ) : Type 0 where
+  pub walk : Watched
+  pub fresh : Fresh walk
+  pub fuel_is : walk.fuel ≡ fuel
+  pub starting_is : walk.starting ≡ S
+  pub lent_first : Lent
+  pub lent_second : Lent
+  pub one : Result Answer Refusal
+  pub two : Result Answer Refusal
+  pub between : Watched
+  pub after : Watched
+  pub first_next : Nexts s n walk lent_first one between first
+  pub second_next : Nexts s n between lent_second two after second
+  pub told : both ≡ (issues one && issues two)

@@ -4,19 +4,24 @@ ghost use Rattle.formula.specs.Trees.{Sheet as Formulas};
 ghost use Rattle.marks.specs.Sets.{Marks};
 ghost use Rattle.sheet.specs.Sheets.{tree_of};
 ghost use Rattle.store.specs.Rules.{Stays};
+ghost use Rattle.run.specs.Lists.{SameLists};
 ghost use Rattle.walk.specs.Watching.{watch};
+ghost use Rattle.walk.specs.Calls.{lent, Nexts};
+ghost use Rattle.walk.specs.Lending.{watch_over};
 ghost use Rattle.walk.specs.Law.{running};
 ghost use Rattle.walk.specs.declared.answer.Answer.TheVariants.{Mark};
 ghost use Rattle.client.specs.Sessions.{stage_of, noted, Takes, Draws};
 
-use crate::call::{Call, Taken, Turned};
+use crate::call::{Call, Taken};
 use refusal::Refusal;
 use run::draw::draw;
 use run::goal::{Frame, Goal};
+use run::lists::Lists;
 use sheet::table::Sheet;
 use source::Source;
+use std::ops::ControlFlow;
 use store::Store;
-use walk::answer::Answer;
+use walk::answer::{Answer, Tallies};
 use walk::state::Walk;
 
 // The most entries that a draw's own lists need.
@@ -38,17 +43,14 @@ fn practise<S: Store, R: Source>(
     let mut picks = [0u16; ENTRIES];
     let mut widths = [0u16; ENTRIES];
     let mut mark = [0u16; 8];
-    let _ = draw(
-        sheet,
-        store,
-        fuel,
-        source,
-        &mut picks,
-        &mut widths,
+    let mut lists = Lists {
+        picks: &mut picks,
+        widths: &mut widths,
         goals,
         frames,
-        &mut mark,
-    );
+        mark: &mut mark,
+    };
+    let _ = draw(sheet, store, fuel, source, &mut lists);
 }
 
 impl Taken {
@@ -68,18 +70,18 @@ impl Taken {
 }
 
 // A close: the closing figures, or the walk where it is not finished.
-fn close(walk: Walk) -> Turned
+fn close(walk: Walk) -> ControlFlow<Tallies, Walk>
     ensures { (s : Formulas) (n : ℕ) (S : Marks) (ps ws : List ℕ) (t : Taken) (list : List ℕ) →
         Takes s n (running (watch walk S ps ws)) t list (Call.Close ∷ []) (stage_of result S ps ws) t list }
 {
     match walk.close() {
-        Ok(closed) => Turned::Closed(closed.figures()),
-        Err(unclosed) => Turned::On(unclosed.walk),
+        Ok(closed) => ControlFlow::Break(closed.figures()),
+        Err(unclosed) => ControlFlow::Continue(unclosed.walk),
     }
 }
 
-// A next; a mark that it issues follows those that stand in the list of marks.
-fn issue<S: Store>(
+// A next over lists that come one by one: a struct that holds a part of another struct's list gets no generated proof.
+fn next_over<S: Store>(
     walk: &mut Walk,
     sheet: &Sheet,
     store: &mut S,
@@ -87,33 +89,60 @@ fn issue<S: Store>(
     widths: &mut [u16],
     goals: &mut [Goal],
     frames: &mut [Frame],
-    marks: &mut [u16],
-    taken: &mut Taken,
-)
-    requires room { taken.old.entries ≤ length marks.old }
-    ensures room { taken.new.entries ≤ length marks.new }
-    ensures same { Stays S.width S.starting store.old store.new }
-    ensures takes { Takes (tree_of sheet.now) (S.width store.old)
-        (running (watch walk.old (S.starting store.old) picks.old widths.old))
-        taken.old marks.old (Call.Next ∷ [])
-        (running (watch walk.new (S.starting store.new) picks.new widths.new))
-        taken.new marks.new }
+    mark: &mut [u16],
+) -> Result<Answer, Refusal>
+    ensures same { S.width store.new ≡ S.width store.old }
+    ensures step { Nexts (tree_of sheet.now) (S.width store.old)
+        (watch walk.old (S.starting store.old) picks.old widths.old)
+        (lent (length goals.old) (length frames.old) mark.old)
+        result
+        (watch walk.new (S.starting store.new) picks.new widths.new)
+        mark.new }
 {
-    let from = taken.entries;
-    let end = marks.len();
-    let answer = walk.next(
-        sheet,
-        store,
+    let mut lists = Lists {
         picks,
         widths,
         goals,
         frames,
-        &mut marks[from..end],
+        mark,
+    };
+    walk.next(sheet, store, &mut lists)
+}
+
+// A next; a mark that it issues follows those that stand in the mark list.
+fn issue<S: Store>(
+    walk: &mut Walk,
+    sheet: &Sheet,
+    store: &mut S,
+    lists: &mut Lists<'_>,
+    taken: &mut Taken,
+)
+    requires room { taken.old.entries ≤ length lists.old.mark.now }
+    ensures room { taken.new.entries ≤ length lists.new.mark.now }
+    ensures same { Stays S.width S.starting store.old store.new }
+    ensures own { SameLists lists.old lists.new }
+    ensures takes { Takes (tree_of sheet.now) (S.width store.old)
+        (running (watch_over walk.old (S.starting store.old) lists.old))
+        taken.old lists.old.mark.now (Call.Next ∷ [])
+        (running (watch_over walk.new (S.starting store.new) lists.new))
+        taken.new lists.new.mark.now }
+{
+    let from = taken.entries;
+    let end = lists.mark.len();
+    let answer = next_over(
+        walk,
+        sheet,
+        store,
+        lists.picks,
+        lists.widths,
+        lists.goals,
+        lists.frames,
+        &mut lists.mark[from..end],
     );
     taken.note(answer, sheet.field_count);
 }
 
-// One call.
+// One call. It leaves the walk, which goes on, or the closing figures.
 pub(crate) fn act<S: Store, R: Source>(
     call: Call,
     asked: &[u16],
@@ -121,41 +150,36 @@ pub(crate) fn act<S: Store, R: Source>(
     sheet: &Sheet,
     store: &mut S,
     source: &mut R,
-    picks: &mut [u16],
-    widths: &mut [u16],
-    goals: &mut [Goal],
-    frames: &mut [Frame],
-    marks: &mut [u16],
+    lists: &mut Lists<'_>,
     taken: &mut Taken,
-) -> Turned
-    requires room { taken.old.entries ≤ length marks.old }
-    ensures room { taken.new.entries ≤ length marks.new }
+) -> ControlFlow<Tallies, Walk>
+    requires room { taken.old.entries ≤ length lists.old.mark.now }
+    ensures room { taken.new.entries ≤ length lists.new.mark.now }
     ensures same { Stays S.width S.starting store.old store.new }
+    ensures own { SameLists lists.old lists.new }
     ensures takes { Takes (tree_of sheet.now) (S.width store.old)
-        (running (watch walk (S.starting store.old) picks.old widths.old))
-        taken.old marks.old (call ∷ [])
-        (stage_of result (S.starting store.new) picks.new widths.new)
-        taken.new marks.new }
+        (running (watch_over walk (S.starting store.old) lists.old))
+        taken.old lists.old.mark.now (call ∷ [])
+        (stage_of result (S.starting store.new) lists.new.picks.now lists.new.widths.now)
+        taken.new lists.new.mark.now }
 {
     let mut on = walk;
     match call {
         Call::Next => {
-            issue(
-                &mut on, sheet, store, picks, widths, goals, frames, marks, taken,
-            );
-            Turned::On(on)
+            issue(&mut on, sheet, store, lists, taken);
+            ControlFlow::Continue(on)
         }
         Call::Draw(fuel) => {
-            practise(fuel, sheet, store, source, goals, frames);
-            Turned::On(on)
+            practise(fuel, sheet, store, source, lists.goals, lists.frames);
+            ControlFlow::Continue(on)
         }
         Call::Check(fuel) => {
             let _ = reading::check(sheet, asked, fuel);
-            Turned::On(on)
+            ControlFlow::Continue(on)
         }
         Call::Tally => {
             let _ = on.tally();
-            Turned::On(on)
+            ControlFlow::Continue(on)
         }
         Call::Close => close(on),
     }

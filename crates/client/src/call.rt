@@ -1,6 +1,5 @@
 // Calls as data, and what a session of calls comes to.
 use walk::answer::Tallies;
-use walk::state::Walk;
 
 // A call on a walk, its sheet and its store: a draw and a check with a fuel of their own.
 #[derive(Clone, Copy)]
@@ -12,7 +11,8 @@ pub enum Call {
     Close,
 }
 
-// How many entries of the list of marks are filled, and whether a next answered finished.
+// How many entries of the list of marks are filled, and whether a next answered finished. No Option: the entries stand
+// whether finished was answered or not.
 #[derive(Clone, Copy)]
 pub struct Taken {
     pub entries: usize,
@@ -24,11 +24,4 @@ pub struct Taken {
 pub struct Session {
     pub taken: Taken,
     pub figures: Option<Tallies>,
-}
-
-// What one call leaves: the walk, which goes on, or the closing figures.
-#[derive(Drop)]
-pub(crate) enum Turned {
-    On(Walk),
-    Closed(Tallies),
 }

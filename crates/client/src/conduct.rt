@@ -1,18 +1,19 @@
 // A walk from its start, by calls that are given as data.
-ghost use Rattle.std.specs.Prelude.{ℕ};
 ghost use Rattle.sheet.specs.Sheets.{tree_of};
+ghost use Rattle.run.specs.Lists.{SameLists};
 ghost use Rattle.client.specs.Sessions.{Conducted};
 
 use crate::act::act;
-use crate::call::{Call, Session, Taken, Turned};
-use run::goal::{Frame, Goal};
+use crate::call::{Call, Session, Taken};
+use run::lists::Lists;
 use sheet::table::Sheet;
 use source::Source;
+use std::ops::ControlFlow;
 use store::Store;
 use walk::start;
 
 // Starts a walk and makes the calls in their order, up to a close that is not refused. The marks that are issued stand
-// one after the other at the front of the list of marks; checks read the mark that is asked for.
+// one after the other at the front of the mark list; checks read the mark that is asked for.
 pub fn conduct<S: Store, R: Source>(
     calls: &[Call],
     asked: &[u16],
@@ -20,14 +21,11 @@ pub fn conduct<S: Store, R: Source>(
     sheet: &Sheet,
     store: &mut S,
     source: &mut R,
-    picks: &mut [u16],
-    widths: &mut [u16],
-    goals: &mut [Goal],
-    frames: &mut [Frame],
-    marks: &mut [u16],
+    lists: &mut Lists<'_>,
 ) -> Session
-    ensures { Conducted (tree_of sheet.now) (S.width store.old) fuel
-        (S.starting store.old) calls.now marks.old result marks.new }
+    ensures own { SameLists lists.old lists.new }
+    ensures conducted { Conducted (tree_of sheet.now) (S.width store.old) fuel
+        (S.starting store.old) calls.now lists.old.mark.now result lists.new.mark.now }
 {
     let mut walk = start(fuel);
     let mut taken = Taken {
@@ -35,12 +33,9 @@ pub fn conduct<S: Store, R: Source>(
         finished: false,
     };
     for call in calls {
-        match act(
-            *call, asked, walk, sheet, store, source, picks, widths, goals, frames, marks,
-            &mut taken,
-        ) {
-            Turned::On(on) => walk = on,
-            Turned::Closed(figures) => {
+        match act(*call, asked, walk, sheet, store, source, lists, &mut taken) {
+            ControlFlow::Continue(on) => walk = on,
+            ControlFlow::Break(figures) => {
                 return Session {
                     taken,
                     figures: Some(figures),

@@ -2,11 +2,13 @@
 // given as data.
 #![tactic(auto)]
 
-ghost use Rattle.std.specs.Prelude.{◌≡◌, T, take, Ok, ◌≢◌};
-ghost use Rattle.walk.specs.declared.answer.Answer.TheVariants.{Mark};
+ghost use Rattle.std.specs.Prelude.{◌≡◌, T, take, ◌≢◌};
+ghost use Rattle.sheet.specs.Sheets.{tree_of};
+ghost use Rattle.run.specs.Lists.{SameLists};
+ghost use Rattle.client.specs.Sessions.{issues, TwoNexts};
 
 use refusal::Refusal;
-use run::goal::{Frame, Goal};
+use run::lists::Lists;
 use sheet::table::Sheet;
 use store::Store;
 use walk::answer::Answer;
@@ -18,30 +20,35 @@ pub mod conduct;
 
 // Whether a next issued a mark.
 fn is_mark(r: Result<Answer, Refusal>) -> bool
-    ensures { T result → r ≡ Ok Mark }
+    ensures { result ≡ issues r }
 {
-    match r {
-        Ok(Answer::Mark) => true,
-        _ => false,
-    }
+    matches!(r, Ok(Answer::Mark))
 }
 
-// Two nexts of one walk; if both issue a mark, the marks differ.
+// Two nexts of one walk, the first over the mark list and the next over a second one; if both issue a mark, the marks
+// differ.
 pub fn two_marks_differ<S: Store>(
     fuel: u8,
     sheet: &Sheet,
     store: &mut S,
-    picks: &mut [u16],
-    widths: &mut [u16],
-    goals: &mut [Goal],
-    frames: &mut [Frame],
-    first: &mut [u16],
+    lists: &mut Lists<'_>,
     second: &mut [u16],
 ) -> bool
-    ensures { T result → take (S.width store.old) first.new ≢ take (S.width store.old) second.new }
+    ensures own { SameLists lists.old lists.new }
+    ensures told { TwoNexts (tree_of sheet.now) (S.width store.old) fuel
+        (S.starting store.old) result lists.new.mark.now second.new }
+    ensures differ { T result →
+        take (S.width store.old) lists.new.mark.now ≢ take (S.width store.old) second.new }
 {
     let mut walk = start(fuel);
-    let one = walk.next(sheet, store, picks, widths, goals, frames, first);
-    let two = walk.next(sheet, store, picks, widths, goals, frames, second);
+    let one = walk.next(sheet, store, lists);
+    let mut others = Lists {
+        picks: lists.picks,
+        widths: lists.widths,
+        goals: lists.goals,
+        frames: lists.frames,
+        mark: second,
+    };
+    let two = walk.next(sheet, store, &mut others);
     is_mark(one) && is_mark(two)
 }

@@ -13,19 +13,18 @@ const ROOM: usize = 262144;
 fn main(rt: HostRuntime) -> io::Result<()> {
     let mut input = vec![in rt.alloc(); 0u8; ROOM]?;
     let size = streams::fill(&mut rt.stdin(), &mut input)?;
+    input.truncate(size);
     let mut out = BufWriter::new(rt.alloc(), rt.stdout())?;
-    tell_all(&input[0..size], &mut out)?;
+    tell_all(&input, &mut out)?;
     out.flush()
 }
 
-// A line for each sheet.
+// A line for each sheet. The byte after an `@` ends its line.
 fn tell_all<W: Write>(sheets: &[u8], out: &mut W) -> io::Result<()> {
-    let mut start = 0;
-    for end in 0..sheets.len() {
-        if sheets[end] == b'@' && start <= end {
-            put_told(&sheets[start..end], out)?;
-            start = end + 2;
-        }
+    let mut rest = sheets;
+    while let Some(end) = rest.iter().position(|byte| *byte == b'@') {
+        put_told(&rest[..end], out)?;
+        rest = rest.get(end + 2..).unwrap_or(&[]);
     }
     Ok(())
 }

@@ -1,5 +1,5 @@
 -- What the six signs of comparison say of two numbers.
-use Rattle.std.specs.Prelude.{ℕ, Bool, not, eqb, ltb}
+use Rattle.std.specs.Prelude.{ℕ, Bool, true, false, not, eqb, ltb}
 use Rattle.formula.specs.declared.Comparison.{Comparison}
 use Rattle.formula.specs.declared.Comparison.TheVariants.{Equal, Differ, Less, AtMost, More, AtLeast}
 
@@ -29,3 +29,8 @@ mirrored Less = More
 mirrored AtMost = AtLeast
 mirrored More = Less
 mirrored AtLeast = AtMost
+
+-- a comparison under a target: a false target turns it into its opposite
+abbrev pub aimed : Bool → Comparison → Comparison
+aimed true c = c
+aimed false c = opposite c

@@ -1,5 +1,5 @@
 -- A sheet by its meaning, names aside: ranges, rules and formulas as trees.
-use Rattle.std.specs.Prelude.{ℕ, List}
+use Rattle.std.specs.Prelude.{ℕ, ◌+◌, ◌-◌, min, List}
 use Rattle.formula.specs.declared.Comparison.{Comparison}
 use Rattle.formula.specs.declared.Join.{Join}
 
@@ -12,6 +12,11 @@ pub data Name : Type 0 where
 pub data Shift : Type 0 where
   up : ℕ → Shift
   down : ℕ → Shift
+
+-- a number with `+` or `-` and another: `+` stops at 1,023 and `-` at 0
+abbrev pub shifted : Shift → ℕ → ℕ
+shifted (up k) v = min (v + k) 1023
+shifted (down k) v = v - k
 
 -- a number, a name, or a name with `+` or `-` and a number
 pub data Term : Type 0 where

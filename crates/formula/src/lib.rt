@@ -2,7 +2,8 @@
 #![tactic(auto)]
 
 ghost use Rattle.std.specs.Prelude.{◌≡◌};
-ghost use Rattle.formula.specs.Comparing.{holds, opposite, mirrored};
+ghost use Rattle.formula.specs.Comparing.{holds, opposite, mirrored, aimed};
+ghost use Rattle.formula.specs.Joining.{wants};
 
 // The six signs of comparison.
 #[derive(Clone, Copy, PartialEq, Eq, Debug)]
@@ -62,6 +63,25 @@ impl Comparison {
             Comparison::AtMost => Comparison::AtLeast,
             Comparison::More => Comparison::Less,
             Comparison::AtLeast => Comparison::AtMost,
+        }
+    }
+
+    // The sign under a target: a false target turns it into its opposite.
+    pub fn aimed(self, target: bool) -> Comparison
+        ensures { result ≡ aimed target self }
+    {
+        if target { self } else { self.opposite() }
+    }
+}
+
+impl Join {
+    // The left side's result at which the join goes on to its right side.
+    pub fn wants(self) -> bool
+        ensures { result ≡ wants self }
+    {
+        match self {
+            Join::And => true,
+            Join::Or => false,
         }
     }
 }

@@ -1,14 +1,14 @@
 -- What looking ahead gives: the class of the first token that is left.
-use Rattle.std.proofs.Common.{◌≡◌, ℕ, Bool, true, false, cond, List, [], ◌∷◌, ◌++◌, length, take, drop, codes, sym, refl, ap, ◌∙◌, subst, arith, Bor}
+use Rattle.std.proofs.Common.{◌≡◌, ℕ, Bool, true, false, cond, List, [], ◌∷◌, ◌++◌, length, take, drop, codes, Some, None, Option, Ok, Err, Result, sym, refl, ap, ◌∙◌, subst, arith, Bor}
+use Rattle.std.specs.Result.{result_unwrap_or}
 use Rattle.std.specs.Str.{bytes_eq}
+use Rattle.refusal.specs.declared.Fault.{Fault}
 use Rattle.std.proofs.lemmas.List.{take_at, drop-drop}
 use Rattle.formula.specs.declared.Join.TheVariants.{And, Or}
 use Rattle.signs.specs.declared.token.Sign.{Sign}
 use Rattle.signs.specs.declared.token.Sign.TheVariants as sign
 use Rattle.signs.specs.declared.token.Token.TheVariants as token
 use Rattle.signs.specs.declared.token.Placed.{Placed}
-use Rattle.signs.specs.declared.token.Next.{Next}
-use Rattle.signs.specs.declared.token.Next.TheVariants as next
 use Rattle.signs.specs.Tokens as signs
 use Rattle.signs.specs.Tokens.{TokAt, Spells, a_word}
 use Rattle.signs.specs.Cutting.{Cut, gap, token, CutFrom}
@@ -109,27 +109,37 @@ module _ (text : List ℕ) (p : ℕ) (t : Placed) (n : NextToken text p t) where
       subst (λ z. Says text k (tokens.token (spelt z)) t.place) (sym is)
       (subst (λ z. Says text z (tokens.sign_token g) t.place) (sym e) (sign_says text g t.place)))
 
+-- the token that comes next, where one does
+pub token_next :
+    (text : List ℕ) (p : ℕ) (r : Result (Option Placed) Fault) (t : Placed)
+    → Follows text p r
+    → Some t ≡ result_unwrap_or r None
+    → NextToken text p t
+token_next text p (Ok (Some u)) t h e = let same : t ≡ u = cc in subst (NextToken text p) (sym same) h
+token_next text p (Ok None) t h e = absurd cc
+token_next text p (Err f) t h e = absurd cc
+
 -- where no token comes next, none is left
 none_left :
-    (text : List ℕ) (p : ℕ) (r : Next)
+    (text : List ℕ) (p : ℕ) (r : Result (Option Placed) Fault)
     → Follows text p r
-    → ((t : Placed) → r ≡ next.Token t → ⊥)
+    → None ≡ result_unwrap_or r None
     → (ts : List TokAt)
     → CutFrom text p ts
     → ts ≡ []
-none_left text p (next.Token t) h k ts cut = absurd (k t refl)
-none_left text p next.End h k ts cut = h.only ts cut
-none_left text p (next.Fault f) h k ts cut = absurd (h.uncut ts cut)
+none_left text p (Ok (Some t)) h e ts cut = absurd cc
+none_left text p (Ok None) h e ts cut = h.only ts cut
+none_left text p (Err f) h e ts cut = absurd (h.uncut ts cut)
 
 pub end_ahead :
-    (text : List ℕ) (p : ℕ) (r : Next)
+    (text : List ℕ) (p : ℕ) (r : Result (Option Placed) Fault)
     → Follows text p r
-    → ((t : Placed) → r ≡ next.Token t → ⊥)
+    → None ≡ result_unwrap_or r None
     → Peeked text p (record { class = class.End; place = length text; end = length text })
-end_ahead text p r h k = record { onward = λ g. absurd (g refl); seen = see }
+end_ahead text p r h e = record { onward = λ g. absurd (g refl); seen = see }
   where
     see : (xs : Tokens) → Left text p xs → Seen text xs class.End (length text) (length text)
     see _ (left {ts} cut) =
         subst (λ z. Seen text (tokens.tokens z) class.End (length text) (length text))
-        (sym (none_left text p r h k ts cut))
+        (sym (none_left text p r h e ts cut))
         (no_token refl)

@@ -1,5 +1,5 @@
 -- Formulas as entries of a table: what is entered stays, and wholes are entered after their parts.
-use Rattle.std.proofs.Common.{◌≡◌, ℕ, suc, ◌+◌, ◌≤◌, List, map, sym, refl, ap, ◌∙◌, subst, arith}
+use Rattle.std.proofs.Common.{◌≡◌, ℕ, suc, ◌+◌, ◌≤◌, List, Option, map, sym, refl, ap, ◌∙◌, subst, arith}
 use lib.ListN.{length-map}
 use Rattle.std.proofs.lemmas.List.{take-map}
 use Rattle.formula.specs.declared.Comparison.{Comparison}
@@ -14,26 +14,24 @@ use Rattle.grammar.specs.declared.formula_part.Part.{Part}
 use Rattle.grammar.specs.declared.list.Few.{Few}
 use Rattle.grammar.specs.Syntax.{Formula, compared, called, negated, picked, joined}
 use Rattle.grammar.specs.Tables.{word_of, term_of, weights_of, node_at, Entries, a_comparison, a_call, a_not, a_pick, a_join}
-use Rattle.grammar.specs.Parsing.{Holds4, Grown, Pushed, Entered}
+use Rattle.grammar.specs.Parsing.{Holds4, entered, Grown, Pushed, Entered}
 
 pub grown_none : (t : Table) → Grown t t
 grown_none t =
     record {
-      fields = (refl, refl);
-      rules = (refl, refl);
+      fields = refl;
+      rules = refl;
       others = (refl, refl);
       grows = omega arith;
-      room = λ h. h;
       same = λ k lt. refl;
     }
 
 pub grown_more : {a b c : Table} → Grown a b → Grown b c → Grown a c
 grown_more g h = record {
-  fields = (h.fields.0 ∙ g.fields.0, h.fields.1 ∙ g.fields.1);
-  rules = (h.rules.0 ∙ g.rules.0, h.rules.1 ∙ g.rules.1);
+  fields = h.fields ∙ g.fields;
+  rules = h.rules ∙ g.rules;
   others = (h.others.0 ∙ g.others.0, h.others.1 ∙ g.others.1);
   grows = omega (arith, g.grows, h.grows);
-  room = λ r. h.room (g.room r);
   same = λ k lt. h.same k (omega (arith, g.grows)) ∙ g.same k lt;
 }
 
@@ -66,9 +64,9 @@ entries_same h (a_join {a = a} {b = b} {i = i} n v e x y) =
 kept :
     {text : List ℕ} {b a : Table} {s e : ℕ} {f : Formula}
     → Grown b a
-    → e + 1 ≤ b.node_count
-    → Entries text b.nodes s e f
-    → Entries text a.nodes s e f
+    → e + 1 ≤ entered b
+    → Entries text b.nodes.items s e f
+    → Entries text a.nodes.items s e f
 kept g h x = entries_same (λ k le. g.same k (omega arith)) x
 
 module _ (text : List ℕ) {b a : Table} where
@@ -83,7 +81,7 @@ module _ (text : List ℕ) {b a : Table} where
     held = λ h.
         let q = p.there (omega arith) in
         let f = compared c (term_of text t) (term_of text u) in (
-          subst (λ s. Entries text a.nodes s i f) q.0 (a_comparison q.2 refl refl),
+          subst (λ s. Entries text a.nodes.items s i f) q.0 (a_comparison q.2 refl refl),
           q.1,
           omega
               (arith, q.0, q.1),
@@ -104,7 +102,7 @@ module _ (text : List ℕ) {b a : Table} where
         let f = called (word_of text v) (map (term_of text) all) in
         let n = h.counts ∙ sym (length-map all (term_of text)) in
         let ts = ap (map (term_of text)) h.holds ∙ sym (take-map (term_of text) 4 all) in (
-          subst (λ s. Entries text a.nodes s i f) q.0 (a_call q.2 refl n ts),
+          subst (λ s. Entries text a.nodes.items s i f) q.0 (a_call q.2 refl n ts),
           q.1,
           omega
               (arith, q.0, q.1),
@@ -148,7 +146,7 @@ module _
 
 -- a join after its two parts
 pub entered_join :
-    (text : List ℕ) {b m n a : Table} {i : ℕ} (left right : Part) {f g : Formula} (j : Join) (w : WeightsEntry)
+    (text : List ℕ) {b m n a : Table} {i : ℕ} (left right : Part) {f g : Formula} (j : Join) (w : Option WeightsEntry)
     → Entered text b m left f
     → Grown m n
     → Entered text m n right g
@@ -163,10 +161,10 @@ entered_join text {b} {m} {n} {a} {i} left right {f} {g} j w x h y p = record {
       let k = x.held (omega arith) in
       let l = y.held (omega (arith, k.1)) in
       let q = p.there (omega (arith, k.1, l.1)) in
-      let e : m.node_count ≡ suc left.body = omega (arith, k.2) in (
+      let e : entered m ≡ suc left.body = omega (arith, k.2) in (
         a_join q.2 refl (omega (arith, q.0, l.2))
             (kept (grown_more h p.grown) (omega (arith, k.2)) k.0)
-            (subst (λ s. Entries text a.nodes s right.body g) e
+            (subst (λ s. Entries text a.nodes.items s right.body g) e
             (kept p.grown (omega (arith, l.2)) l.0)),
         omega (arith, q.1, k.1, l.1),
         omega (arith, q.0, q.1),

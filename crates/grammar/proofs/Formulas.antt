@@ -1,5 +1,5 @@
 -- What reading a formula or a unit gives, from what its parts give.
-use Rattle.std.proofs.Common.{◌≡◌, ℕ, ◌≤◌, List, ◌∷◌, length, Ok, Err, Result, sym, refl, ap, subst, arith}
+use Rattle.std.proofs.Common.{◌≡◌, ℕ, ◌≤◌, List, ◌∷◌, length, Some, None, Ok, Err, Result, sym, refl, ap, subst, arith}
 use Rattle.refusal.specs.declared.Fault.{Fault}
 use Rattle.formula.specs.declared.Comparison.{Comparison}
 use Rattle.formula.specs.declared.Join.{Join}
@@ -9,8 +9,6 @@ use Rattle.grammar.specs.declared.table.Term.{Term as TermEntry}
 use Rattle.grammar.specs.declared.token.Class.{Class}
 use Rattle.grammar.specs.declared.token.Class.TheVariants as class
 use Rattle.grammar.specs.declared.token.Ahead.{Ahead}
-use Rattle.grammar.specs.declared.token.Read.{Read}
-use Rattle.grammar.specs.declared.table.Weights.TheVariants as weights
 use Rattle.grammar.specs.declared.table.Node.TheVariants as node
 use Rattle.grammar.specs.declared.table.Table.{Table}
 use Rattle.grammar.specs.declared.formula_part.Part.{Part}
@@ -18,10 +16,11 @@ use Rattle.grammar.specs.declared.list.Few.{Few}
 use Rattle.grammar.specs.Syntax.{Word, word, num, Term, given, compared, called}
 use Rattle.grammar.specs.Grammar as gram
 use Rattle.grammar.specs.Grammar.{Tok, name, number, not, pick, join, sign, opening, closing, colon, at, Tokens, Listed, IsName, a_name, IsTerm, a_constant, IsWeights, no_weights, Level, any, only, Fits, strict, Kind, unit, formula, Reads, a_comparison, a_call, a_not, a_pick, brackets, alone}
-use Rattle.grammar.specs.Tables.{word_of, number_of}
+use Rattle.grammar.specs.Tables.{word_of, number_of, term_of}
 use Rattle.grammar.specs.Moves.{State, Is, is_sign, is_opening, opening_sign, expects, some_sign, Open, allowance, term, summed, a_unit, named, more, after_join, numbered, compared_with, Need, Move, asked, unit_number, unit_name, unit_not, unit_pick, unit_bracket, unit_call, unit_compares, join_number, join_name, join_opens, weight_colon, weight_none, Halts, goes_on, halts_token, halts_deep, halts_mixed, halts_end}
-use Rattle.grammar.specs.Parsing.{Left, Says, says_number, says_opening, says_colon, Seen, a_token, Peeked, Stopped, Came, IsNumber, a_number, IsSign, a_sign, NumberRead, SignRead, TermRead, SumRead, TermsRead, Pushed, FormulaIs, Measured, Around, ComparisonRead, CallRead, NamedRead, WeightsRead}
+use Rattle.grammar.specs.Parsing.{Read, Left, Says, says_number, says_opening, says_colon, Seen, a_token, Peeked, Stopped, Came, IsNumber, a_number, IsSign, a_sign, NumberRead, SignRead, TermRead, SumRead, TermsRead, Pushed, FormulaIs, Measured, Around, ComparisonRead, CallRead, NamedRead, WeightsRead}
 use Rattle.grammar.proofs.Next.{not_named, not_joined}
+use Rattle.grammar.proofs.Bracketed.{listed_as}
 use Rattle.grammar.proofs.Leaves.{no, real, seen_as}
 use Rattle.grammar.proofs.Entering.{entered_comparison, entered_call}
 
@@ -92,7 +91,7 @@ call_read text p v i list h e = (
         item =
             λ d w j q g. (
               _,
-              call_item m.item.2 g,
+              call_item (listed_as (term_of text) m.item.2) g,
               entered_call text v list.value m.item.0
                   m.item.1 e,
             );
@@ -279,7 +278,7 @@ module _ (text : List ℕ) (p : ℕ) (h : Ahead) (k : Peeked text p h) where
   absent_from :
       p ≤ length text
       → ((xs : Tokens) → Left text p xs → NoWeights xs)
-      → WeightsRead text p (Ok (record { value = weights.Absent; end = p }))
+      → WeightsRead text p (Ok (record { value = None; end = p }))
   absent_from le z = (
     omega arith,
     le,
@@ -294,7 +293,7 @@ module _ (text : List ℕ) (p : ℕ) (h : Ahead) (k : Peeked text p h) where
   pub absent_read :
       p ≤ length text
       → ((m : ℕ) → h.class ≡ class.Number m → ⊥)
-      → WeightsRead text p (Ok (record { value = weights.Absent; end = p }))
+      → WeightsRead text p (Ok (record { value = None; end = p }))
   absent_read le z = absent_from le (λ xs l m i q ys e.
       not_a_number z (subst (λ v. Seen text v h.class h.place h.end) e (k.seen xs l)))
 
@@ -302,7 +301,7 @@ module _ (text : List ℕ) (p : ℕ) (h : Ahead) (k : Peeked text p h) where
     pub no_colon_read :
         p ≤ length text
         → (g.class ≡ class.Colon → ⊥)
-        → WeightsRead text p (Ok (record { value = weights.Absent; end = p }))
+        → WeightsRead text p (Ok (record { value = None; end = p }))
     no_colon_read le z = absent_from le (λ xs l. second_no_colon g u z (seen_as text p h k is xs l))
 
     given_item :
@@ -366,8 +365,7 @@ module _ (text : List ℕ) (p : ℕ) (h : Ahead) (k : Peeked text p h) where
         → g.class ≡ class.Colon
         → NumberRead text g.end (Ok x)
         → WeightsRead text p (Ok (record {
-          value = weights.Given (record { value = m; place = h.place })
-              x.value;
+          value = Some (record { left = record { value = m; place = h.place }; right = x.value });
           end = x.end;
         }))
     given_read x colon_is o =

@@ -1,7 +1,8 @@
 -- Lines that a table keeps: one more, or from now on none.
-use Rattle.std.proofs.Common.{◌≡◌, ℕ, suc, ◌+◌, ◌<◌, ◌≤◌, true, false, ◌⊎◌, List, [], ◌∷◌, ◌++◌, map, length, take, set, is_some, Some, None, Option, sym, refl, ap, ◌∙◌, subst, inl, inr, append_assoc, arith, length-append}
+use Rattle.std.proofs.Common.{◌≡◌, ℕ, suc, ◌+◌, ◌<◌, ◌≤◌, true, false, ◌⊎◌, List, [], ◌∷◌, ◌++◌, map, length, take, is_some, Some, None, Option, sym, refl, ap, ◌∙◌, subst, inl, inr, append_assoc, arith, length-append}
 use lib.ListN.{length-map}
-use Rattle.std.proofs.lemmas.List.{take_all, take_more_set}
+use Rattle.std.proofs.lemmas.List.{take_all}
+use Rattle.arrayvec.specs.ArrayVec.{ArrayVec}
 use Rattle.grammar.specs.declared.table.Word.{Word as WordEntry}
 use Rattle.grammar.specs.declared.table.Node.{Node}
 use Rattle.grammar.specs.declared.table.FieldLine.{FieldLine}
@@ -12,7 +13,7 @@ use Rattle.grammar.specs.declared.line.Head.{Head}
 use Rattle.grammar.specs.Syntax.{Formula, Field, field_line, Rule, rule_line, mark_line, sheet}
 use Rattle.grammar.specs.Tables.{word_of, number_of, node_at, Entries, size, joins, Over, many_params, many_joins, many_formulas, field_of, fields_of, params_of, rules_of, Rules, no_rules, a_rule, LinesAbove, Holds, over_field, over_rule, over_mark}
 use Rattle.grammar.specs.Tables as tables
-use Rattle.grammar.specs.Parsing.{Holds4, Grown, LinesKept, all_kept, field_over, rule_over, Lines, BodyHeld, Passing}
+use Rattle.grammar.specs.Parsing.{Holds4, entered, Grown, LinesKept, all_kept, field_over, rule_over, Lines, BodyHeld, Passing}
 use Rattle.grammar.proofs.Leaves.{no}
 use Rattle.grammar.proofs.Entering.{starts, entries_same}
 
@@ -40,7 +41,7 @@ rules_order :
     → Rules text ns s ls xs e
     → s ≤ e
 rules_order no_rules = omega arith
-rules_order (a_rule p w n ps st en ov r) = omega (arith, starts en, rules_order r)
+rules_order (a_rule p w ps st en ov r) = omega (arith, starts en, rules_order r)
 
 rules_same :
     {text : List ℕ} {ns ms : List Node} {s e : ℕ} {ls : List RuleLine} {xs : List Rule}
@@ -48,30 +49,23 @@ rules_same :
     → Rules text ns s ls xs e
     → Rules text ms s ls xs e
 rules_same h no_rules = no_rules
-rules_same h (a_rule {l = l} p w n ps st en ov r) =
+rules_same h (a_rule {l = l} p w ps st en ov r) =
     let o = rules_order r in
-    a_rule p w n ps st (entries_same (λ k le. h k (omega arith)) en) ov (rules_same h r)
+    a_rule p w ps st (entries_same (λ k le. h k (omega arith)) en) ov (rules_same h r)
 
 module _ (text : List ℕ) where
   above_same :
       {b a : Table} {fs : List Field} {rs : List Rule} {e : ℕ}
-      → (a.fields ≡ b.fields) × (a.field_count ≡ b.field_count)
-      → (a.rules ≡ b.rules) × (a.rule_count ≡ b.rule_count)
-      → ((k : ℕ) → k < e → node_at a.nodes k ≡ node_at b.nodes k)
+      → a.fields ≡ b.fields
+      → a.rules ≡ b.rules
+      → ((k : ℕ) → k < e → node_at a.nodes.items k ≡ node_at b.nodes.items k)
       → LinesAbove text b fs rs e
       → LinesAbove text a fs rs e
   above_same {b} {a} {fs} {rs} {e} f r n h = record {
-    field_count = f.1 ∙ h.field_count;
     few_fields = h.few_fields;
-    fields_held =
-        ap (λ k. map (field_of text) (take k a.fields)) f.1
-        ∙ ap (λ l. map (field_of text) (take b.field_count l)) f.0 ∙ h.fields_held;
-    rule_count = r.1 ∙ h.rule_count;
+    fields_held = ap (λ v. map (field_of text) v.items) f ∙ h.fields_held;
     few_rules = h.few_rules;
-    rules_held =
-        subst (λ l. Rules text a.nodes 0 l rs e)
-        (sym (ap (λ k. take k a.rules) r.1 ∙ ap (take b.rule_count) r.0))
-        (rules_same n h.rules_held);
+    rules_held = subst (λ v. Rules text a.nodes.items 0 v.items rs e) (sym r) (rules_same n h.rules_held);
   }
 
   -- entries added after those in use leave the lines as they are
@@ -79,7 +73,7 @@ module _ (text : List ℕ) where
       {b a : Table} {fs : List Field} {rs : List Rule}
       → Grown b a
       → Lines text b fs rs
-      → LinesKept text a fs rs b.node_count
+      → LinesKept text a fs rs (entered b)
   lines_grown g (all_kept o h) = all_kept (g.others.1 ∙ o) (above_same g.fields g.rules g.same h)
   lines_grown g (field_over w lo hi below o h le n e) =
       field_over w lo hi below (g.others.1 ∙ o)
@@ -107,72 +101,39 @@ module _ (text : List ℕ) where
 
   -- the table with the place of a line that passes a limit
   abbrev over_at : Table → ℕ → Table
-  over_at b p = record {
-    fields = b.fields;
-    field_count = b.field_count;
-    rules = b.rules;
-    rule_count = b.rule_count;
-    mark = b.mark;
-    nodes = b.nodes;
-    node_count = b.node_count;
-    over = Some p;
-  }
+  over_at b p = record b { over = Some p }
 
   over_above :
       {b : Table} {fs : List Field} {rs : List Rule} {e p : ℕ}
       → LinesAbove text b fs rs e
       → LinesAbove text (over_at b p) fs rs e
-  over_above h = above_same (refl, refl) (refl, refl) (λ k lt. refl) h
+  over_above h = above_same refl refl (λ k lt. refl) h
+
+  fields_length :
+      {b : Table} {fs : List Field} {rs : List Rule} {e : ℕ}
+      → LinesAbove text b fs rs e
+      → length b.fields.items ≡ length fs
+  fields_length {b} h = sym (length-map b.fields.items (field_of text)) ∙ ap length h.fields_held
+
+  rules_length :
+      {ns : List Node} {s e : ℕ} {ls : List RuleLine} {xs : List Rule}
+      → Rules text ns s ls xs e
+      → length ls ≡ length xs
+  rules_length no_rules = refl
+  rules_length (a_rule p w ps st en ov r) = ap (λ k. suc k) (rules_length r)
 
   pub field_passes :
       (b : Table) (fs : List Field) (line : FieldLine)
       → is_some b.over ≡ false
-      → 8 ≤ b.field_count
+      → length b.fields.items ≡ 8
       → Lines text b fs []
       → Lines text (over_at b line.first) (fs ++ field_of text line ∷ []) []
-  field_passes b fs line s le (all_kept o h) =
+  field_passes b fs line s e (all_kept o h) =
       field_over (word_of text line.name) (number_of line.low) (number_of line.high) [] refl
       (over_above h)
-      (omega arith) (omega (arith, h.field_count, h.few_fields)) refl
+      (omega arith) (sym (fields_length h) ∙ e) refl
   field_passes b fs line s le (field_over w lo hi below o h d n e) = absurd (some_none o s)
   field_passes b fs line s le (rule_over w below o h d v e) = absurd (some_none o s)
-
-  map_last : {A B : Type 0} (f : A → B) (xs : List A) (x : A) → map f (xs ++ x ∷ []) ≡ map f xs ++ f x ∷ []
-  map_last f [] x = refl
-  map_last f (y ∷ xs) x = ap (λ l. f y ∷ l) (map_last f xs x)
-
-  pub field_stored :
-      (b : Table) (fs : List Field) (line : FieldLine)
-      → length b.fields ≡ 8
-      → is_some b.over ≡ false
-      → b.field_count < 8
-      → Lines text b fs []
-      → Lines text (record {
-        fields = set b.fields b.field_count line;
-        field_count = b.field_count + 1;
-        rules = b.rules;
-        rule_count = b.rule_count;
-        mark =
-            b.mark;
-        nodes = b.nodes;
-        node_count = b.node_count;
-        over = b.over;
-      }) (fs ++ field_of text line ∷ []) []
-  field_stored b fs line room s lt (all_kept o h) =
-      let n = longer fs (field_of text line) in
-      all_kept o (record {
-        field_count = omega (arith, h.field_count);
-        few_fields = omega (arith, h.field_count);
-        fields_held =
-            ap (map (field_of text)) (take_more_set b.fields b.field_count line (omega arith))
-            ∙ map_last (field_of text) (take b.field_count b.fields) line
-            ∙ ap (λ l. l ++ field_of text line ∷ []) h.fields_held;
-        rule_count = h.rule_count;
-        few_rules = h.few_rules;
-        rules_held = h.rules_held;
-      })
-  field_stored b fs line room s lt (field_over w lo hi below o h d n e) = absurd (some_none o s)
-  field_stored b fs line room s lt (rule_over w below o h d v e) = absurd (some_none o s)
 
   -- Rule lines
 
@@ -182,9 +143,9 @@ module _ (text : List ℕ) where
       → Rules text ns d ks ys e
       → Rules text ns s (ls ++ ks) (xs ++ ys) e
   rules_more no_rules k = k
-  rules_more (a_rule p w n ps st en ov r) k = a_rule p w n ps st en ov (rules_more r k)
+  rules_more (a_rule p w ps st en ov r) k = a_rule p w ps st en ov (rules_more r k)
 
-  module _ (b : Table) (fs : List Field) (rs : List Rule) (s : ℕ) (le : s ≤ b.node_count) where
+  module _ (b : Table) (fs : List Field) (rs : List Rule) (s : ℕ) (le : s ≤ entered b) where
     pub rule_skipped :
         (r : Rule)
         → is_some b.over ≡ true
@@ -213,12 +174,12 @@ module _ (text : List ℕ) where
 
       pub rule_passes :
           is_some b.over ≡ false
-          → (16 ≤ b.rule_count) ⊎ Passing s head.params.count part
+          → (length b.rules.items ≡ 16) ⊎ Passing s head.params.count part
           → LinesKept text b fs rs s
           → Lines text (over_at b first) fs (rs ++ rule_line first (word_of text head.name)
           (map (word_of text) all) f ∷ [])
       rule_passes is (inl n) (all_kept o h) =
-          rule_over (word_of text head.name) [] refl (over_above h) le (inl (omega (arith, h.rule_count)))
+          rule_over (word_of text head.name) [] refl (over_above h) le (inl (omega (arith, rules_length h.rules_held)))
           refl
       rule_passes is (inr v) (all_kept o h) =
           rule_over (word_of text head.name) [] refl (over_above h) le (inr (passing v)) refl
@@ -226,61 +187,45 @@ module _ (text : List ℕ) where
       rule_passes is v (rule_over w below o h d u e) = absurd (some_none o is)
 
       -- the line, as it is stored
-      abbrev line : RuleLine
-      line = record {
-        first = first;
-        name = head.name;
-        params = head.params.items;
-        param_count = head.params.count;
-        start = s;
-        body = part.body;
-      }
+      abbrev line : ArrayVec WordEntry → RuleLine
+      line params = record { first = first; name = head.name; params = params; start = s; body = part.body }
 
       pub rule_stored :
-          length b.rules ≡ 16
+          (params : ArrayVec WordEntry) (more : ArrayVec RuleLine)
+          → params.items ≡ take head.params.count head.params.items
+          → more.items ≡ b.rules.items ++ line params ∷ []
           → is_some b.over ≡ false
-          → b.rule_count < 16
+          → length b.rules.items < 16
           → (Passing s head.params.count part → ⊥)
           → s + part.size ≤ 256
           → head.params.count ≤ 4
           → LinesKept text b fs rs s
-          → Lines text (record {
-            fields = b.fields;
-            field_count = b.field_count;
-            rules = set b.rules b.rule_count line;
-            rule_count = b.rule_count + 1;
-            mark = b.mark;
-            nodes = b.nodes;
-            node_count = b.node_count;
-            over = b.over;
-          })
+          → Lines text (record b { rules = more })
           fs (rs ++ rule_line first (word_of text head.name) (map (word_of text) all) f ∷ [])
-      rule_stored room is lt z not_over not_many (all_kept o h) =
+      rule_stored params more ps_is is none lt z not_over not_many (all_kept o h) =
           let fits : s + size f ≤ 256 = omega (arith, not_over, body.sized) in
           let k = body.held fits in
           let n = longer rs (rule_line first (word_of text head.name) (map (word_of text) all) f) in
           let c = few.counts in
-          let l = length-map all (word_of text) in
           let small : length all ≤ 4 = omega (arith, not_many) in
-          let e : suc part.body ≡ b.node_count = omega (arith, k.2) in
+          let e : suc part.body ≡ entered b = omega (arith, k.2) in
           all_kept o (record {
-            field_count = h.field_count;
             few_fields = h.few_fields;
             fields_held = h.fields_held;
-            rule_count = omega (arith, h.rule_count);
-            few_rules = omega (arith, h.rule_count);
+            few_rules = omega (arith, rules_length h.rules_held);
             rules_held =
-                subst (λ q. Rules text b.nodes 0 q (rs ++ rule_line first (word_of text head.name)
-                (map (word_of text) all) f ∷ []) b.node_count)
-                (sym (take_more_set b.rules b.rule_count line (omega arith)))
+                subst (λ q. Rules text b.nodes.items 0 q (rs ++ rule_line first (word_of text head.name)
+                (map (word_of text) all) f ∷ []) (entered b))
+                (sym is)
                 (rules_more h.rules_held
-                (subst (Rules text b.nodes s (line ∷ [])
+                (subst (Rules text b.nodes.items s (line params ∷ [])
                 (rule_line first (word_of text head.name) (map (word_of text) all) f ∷ [])) e
-                (a_rule refl refl (c ∙ sym l) (ap (map (word_of text)) (few.holds ∙ take_all 4 all small))
+                (a_rule refl refl
+                (ap (map (word_of text)) (ps_is ∙ few.holds ∙ take_all 4 all small))
                 refl k.0 (λ v. z (passed v)) no_rules)));
           })
-      rule_stored room is lt z x y (field_over w lo hi below o h d n e) = absurd (some_none o is)
-      rule_stored room is lt z x y (rule_over w below o h d u e) = absurd (some_none o is)
+      rule_stored params more ps_is is none lt z x y (field_over w lo hi below o h d n e) = absurd (some_none o none)
+      rule_stored params more ps_is is none lt z x y (rule_over w below o h d u e) = absurd (some_none o none)
 
   -- The mark line
 
@@ -319,21 +264,11 @@ module _ (text : List ℕ) where
         → (Passing s 0 part → ⊥)
         → s + part.size ≤ 256
         → LinesKept text b fs rs s
-        → Holds text (record {
-          fields =
-              b.fields;
-          field_count = b.field_count;
-          rules = b.rules;
-          rule_count = b.rule_count;
-          mark = record { first = first; start = s; body = part.body };
-          nodes =
-              b.nodes;
-          node_count = b.node_count;
-          over = b.over;
-        }) (sheet fs rs (mark_line first f))
+        → Holds text (record b { mark = record { first = first; start = s; body = part.body } })
+        (sheet fs rs (mark_line first f))
     mark_stored is z fits (all_kept o h) =
         let k = body.held (omega (arith, body.sized)) in
-        tables.whole o (above_same (refl, refl) (refl, refl) (λ i lt. refl) h) refl refl k.0
+        tables.whole o (above_same refl refl (λ i lt. refl) h) refl refl k.0
         (λ v. z (mark_passed v))
     mark_stored is z fits (field_over w lo hi below o h d n e) = absurd (some_none o is)
     mark_stored is z fits (rule_over w below o h d u e) = absurd (some_none o is)

@@ -8,13 +8,11 @@ use Rattle.grammar.specs.declared.table.Word.{Word as WordEntry}
 use Rattle.grammar.specs.declared.token.Class.{Class}
 use Rattle.grammar.specs.declared.token.Class.TheVariants as class
 use Rattle.grammar.specs.declared.token.Ahead.{Ahead}
-use Rattle.grammar.specs.declared.token.Fixed.{Fixed}
-use Rattle.grammar.specs.declared.token.Fixed.TheVariants as fixed
 use Rattle.grammar.specs.Syntax.{num}
 use Rattle.grammar.specs.Grammar.{Tok, at, Tokens, IsName, a_name}
 use Rattle.grammar.specs.Tables.{word_of}
-use Rattle.grammar.specs.Moves.{some_name, some_number, some_sign, is_name, is_number, is_sign, is_opening, is_closing, is_semicolon, is_colon, State, expects, Need, Move, asked, Unfinished, Halts, goes_on, halts_token, halts_end, place_of}
-use Rattle.grammar.specs.Parsing.{Left, Says, says_name, says_number, says_sign, says_opening, says_closing, says_semicolon, says_colon, Seen, no_token, a_token, Peeked, Stopped, Came, IsNumber, a_number, IsSign, a_sign, NameRead, NumberRead, SignRead, fixed_class, fixed_shape, FirstIs, first_is, Expected}
+use Rattle.grammar.specs.Moves.{Shape, some_name, some_number, some_sign, is_name, is_number, is_sign, is_opening, is_closing, is_semicolon, is_colon, State, expects, Need, Move, asked, Unfinished, Halts, goes_on, halts_token, halts_end, place_of}
+use Rattle.grammar.specs.Parsing.{Left, Says, says_name, says_number, says_sign, says_opening, says_closing, says_semicolon, says_colon, Seen, no_token, a_token, Peeked, Stopped, Came, IsNumber, a_number, IsSign, a_sign, NameRead, NumberRead, SignRead, Fixed, fixed_opening, fixed_closing, fixed_semicolon, fixed_colon, FirstIs, first_is, Expected}
 
 pub no : ◌≡◌ {A = ℕ} 0 1 → ⊥
 no z = omega arith
@@ -149,45 +147,45 @@ module _ (text : List ℕ) (p : ℕ) (a : Ahead) (h : Peeked text p a) where
 
   -- a sign that is asked for
   fixed_came :
-      (g : Fixed) {q e : ℕ} {xs : Tokens}
-      → Seen text xs (fixed_class g) q e
-      → (us : Tokens) × FirstIs (fixed_shape g) xs us × Left text e us
-  fixed_came fixed.Opening (a_token says_opening l) = (_, first_is is_opening, l)
-  fixed_came fixed.Closing (a_token says_closing l) = (_, first_is is_closing, l)
-  fixed_came fixed.Semicolon (a_token says_semicolon l) = (_, first_is is_semicolon, l)
-  fixed_came fixed.Colon (a_token says_colon l) = (_, first_is is_colon, l)
+      {c : Class} {k : Shape} (g : Fixed c k) {q e : ℕ} {xs : Tokens}
+      → Seen text xs c q e
+      → (us : Tokens) × FirstIs k xs us × Left text e us
+  fixed_came fixed_opening (a_token says_opening l) = (_, first_is is_opening, l)
+  fixed_came fixed_closing (a_token says_closing l) = (_, first_is is_closing, l)
+  fixed_came fixed_semicolon (a_token says_semicolon l) = (_, first_is is_semicolon, l)
+  fixed_came fixed_colon (a_token says_colon l) = (_, first_is is_colon, l)
 
-  fixed_real : (g : Fixed) → fixed_class g ≡ class.End → ⊥
-  fixed_real fixed.Opening e = no (cc)
-  fixed_real fixed.Closing e = no (cc)
-  fixed_real fixed.Semicolon e = no (cc)
-  fixed_real fixed.Colon e = no (cc)
+  fixed_real : {c : Class} {k : Shape} → Fixed c k → c ≡ class.End → ⊥
+  fixed_real fixed_opening e = no (cc)
+  fixed_real fixed_closing e = no (cc)
+  fixed_real fixed_semicolon e = no (cc)
+  fixed_real fixed_colon e = no (cc)
 
-  pub fixed_read : (g : Fixed) → a.class ≡ fixed_class g → Expected text p (fixed_shape g) (Ok a.end)
+  pub fixed_read : {c : Class} {k : Shape} → Fixed c k → a.class ≡ c → Expected text p k (Ok a.end)
   fixed_read g is =
       let r = real (λ e. fixed_real g (sym is ∙ e)) in
       (r.0, r.1, λ xs l. fixed_came g (seen_as is xs l))
 
   not_first :
-      (g : Fixed) {k : Class} {q e : ℕ} {xs us : Tokens}
-      → (k ≡ fixed_class g → ⊥)
-      → FirstIs (fixed_shape g) xs us
+      {c : Class} {s : Shape} (g : Fixed c s) {k : Class} {q e : ℕ} {xs us : Tokens}
+      → (k ≡ c → ⊥)
+      → FirstIs s xs us
       → Seen text xs k q e
       → ⊥
-  not_first fixed.Opening z (first_is is_opening) (a_token says_opening l) = z refl
-  not_first fixed.Closing z (first_is is_closing) (a_token says_closing l) = z refl
-  not_first fixed.Semicolon z (first_is is_semicolon) (a_token says_semicolon l) = z refl
-  not_first fixed.Colon z (first_is is_colon) (a_token says_colon l) = z refl
+  not_first fixed_opening z (first_is is_opening) (a_token says_opening l) = z refl
+  not_first fixed_closing z (first_is is_closing) (a_token says_closing l) = z refl
+  not_first fixed_semicolon z (first_is is_semicolon) (a_token says_semicolon l) = z refl
+  not_first fixed_colon z (first_is is_colon) (a_token says_colon l) = z refl
 
   seen_place : {k : Class} {q e : ℕ} {xs : Tokens} → Seen text xs k q e → q ≡ place_of (length text) xs
   seen_place (no_token g) = g
   seen_place (a_token s l) = refl
 
   pub fixed_stops :
-      (g : Fixed) (f : Fault)
+      {c : Class} {k : Shape} (g : Fixed c k) (f : Fault)
       → f ≡ refused_at a.place
-      → (a.class ≡ fixed_class g → ⊥)
-      → Expected text p (fixed_shape g) (Err f)
+      → (a.class ≡ c → ⊥)
+      → Expected text p k (Err f)
   fixed_stops g f e z xs l =
       let s = h.seen xs l in
       (ap (λ x. table.number x.refusal) e, ap (λ x. x.place) e ∙ seen_place s, λ us i. not_first g z i s)

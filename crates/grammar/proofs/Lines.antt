@@ -7,16 +7,17 @@ use Rattle.grammar.specs.declared.table.Number.{Number as NumberEntry}
 use Rattle.grammar.specs.declared.token.Class.{Class}
 use Rattle.grammar.specs.declared.token.Class.TheVariants as class
 use Rattle.grammar.specs.declared.token.Ahead.{Ahead}
-use Rattle.grammar.specs.declared.token.Read.{Read}
 use Rattle.grammar.specs.declared.table.Table.{Table}
 use Rattle.grammar.specs.declared.formula_part.Part.{Part}
 use Rattle.grammar.specs.declared.list.Few.{Few}
+use Rattle.grammar.specs.declared.body.Body.{Body}
 use Rattle.grammar.specs.declared.line.Head.{Head}
 use Rattle.grammar.specs.Syntax.{Word, Number, Formula, Field, field_line, Rule, rule_line, Mark, mark_line, sheet}
 use Rattle.grammar.specs.Grammar.{Tok, field, rule, mark, semicolon, at, Tokens, Listed, IsName, a_name, any, formula, Reads, IsField, a_field, IsRule, a_rule, IsMark, a_mark}
 use Rattle.grammar.specs.Tables.{word_of, Holds}
 use Rattle.grammar.specs.Moves.{Shape, opening_sign, semicolon_sign, colon_sign, is_opening, is_semicolon, is_colon, Line, of_rule, of_mark, whole, State, expects, fields, rules, ended, names, a_unit, more, rule_body, Need, Move, asked, line_rule, line_mark, next_join, rule_end, mark_end, Halts, goes_on, halts_token, halts_end, place_of}
-use Rattle.grammar.specs.Parsing.{Left, Says, says_mark, Seen, no_token, a_token, Peeked, Stopped, IsNumber, a_number, NameRead, NumberRead, NamesRead, Holds4, FirstIs, first_is, Expected, NoJoin, FormulaRead, Grown, Entered, HeadIs, a_head, HeadRead, after_line, BodyIs, a_body, BodyRead, Lines, FieldKept, FieldRead, BodyHeld, RuleKept, RuleRead, NotFirst, MarkKept, MarkRead}
+use Rattle.grammar.specs.Parsing.{Read, Left, Says, says_mark, Seen, no_token, a_token, Peeked, Stopped, Outcome, IsNumber, a_number, NameRead, NumberRead, NamesRead, Holds4, FirstIs, first_is, Expected, NoJoin, FormulaRead, entered, Grown, Entered, HeadIs, a_head, HeadRead, after_line, BodyIs, a_body, BodyRead, Lines, FieldKept, FieldRead, BodyHeld, RuleKept, RuleRead, NotFirst, MarkKept, MarkRead}
+use Rattle.grammar.proofs.Bracketed.{listed_as}
 use Rattle.grammar.proofs.Leaves.{refused_at, seen_as}
 use Rattle.grammar.proofs.Keeping.{lines_grown}
 
@@ -125,7 +126,7 @@ module _ (text : List ℕ) (p : ℕ) (w : Read WordEntry) (h : NameRead text p (
               remains = z.2;
               goes = λ _ k r q. v.goes (expects opening_sign (names rule_body)) k r
                   (first_goes y.1 (n.goes rule_body k r (first_goes z.1 q)));
-              item = head_item _ n.item.0 n.item.1 v.item y.1 n.item.2 z.1;
+              item = head_item _ n.item.0 n.item.1 v.item y.1 (listed_as (word_of text) n.item.2) z.1;
             },
       )
 
@@ -187,10 +188,12 @@ module _ (text : List ℕ) (p : ℕ) (b a : Table) where
         }
 
     pub body_read :
-        (e : ℕ)
+        (s e : ℕ)
+        → s ≡ entered b
         → Expected text x.end semicolon_sign (Ok e)
-        → BodyRead text p b a (Ok (record { value = x.value; end = e }))
-    body_read e g = (
+        → Outcome text p Line (λ n. a_unit 16 any (whole n)) after_line Part
+        (λ part xs us. (s ≡ entered b) × BodyIs text b a part xs us) (Ok (record { value = x.value; end = e }))
+    body_read s e is g = (
       omega (arith, h.0, g.0),
       g.1,
       λ xs l.
@@ -201,7 +204,7 @@ module _ (text : List ℕ) (p : ℕ) (b a : Table) where
             rest = y.0;
             remains = y.2;
             goes = λ n k r q. v.goes (whole n, refl) k r (ends_line n y.1 q);
-            item = body_item x.value f.1 f.2 y.1;
+            item = (is, body_item x.value f.1 f.2 y.1);
           },
     )
 
@@ -263,13 +266,13 @@ module _
 body_held :
     {text : List ℕ} {b a : Table} (part : Part) {f : Formula}
     → Entered text b a part f
-    → BodyHeld text a b.node_count part f
+    → BodyHeld text a (entered b) part f
 body_held part e = record { sized = e.sized; joined = e.joined; held = e.held }
 
 rule_item :
     {text : List ℕ} {b m a : Table} (i : ℕ) (head : Head) (part : Part) {xs zs us : Tokens}
     → Grown b m
-    → RuleKept m a i head b.node_count part
+    → RuleKept m a i head (entered b) part
     → HeadIs text head xs zs
     → BodyIs text b m part zs us
     → (f : Rule) × IsRule (at rule i ∷ xs) us f
@@ -283,9 +286,6 @@ rule_item {text} {a = a} i head part g kept (a_head all e few l) (a_body {f = f}
 )
 
 module _ (text : List ℕ) (p i : ℕ) (b : Table) where
-  pub head_stops : (f : Fault) → HeadRead text p (Err f) → RuleRead text p i b b (Err f)
-  head_stops f h = h
-
   module _ (hd : Read Head) (h : HeadRead text p (Ok hd)) where
     pub body_stops :
         (m : Table) (f : Fault)
@@ -297,12 +297,12 @@ module _ (text : List ℕ) (p i : ℕ) (b : Table) where
         record { rest = s.rest; there = s.there; halts = λ _. v.goes tt _ _ (s.halts of_rule) }
 
     pub rule_read :
-        {m a : Table} (x : Read Part)
+        {m a : Table} (x : Read Body)
         → Grown b m
         → BodyRead text hd.end b m (Ok x)
-        → RuleKept m a i hd.value b.node_count x.value
+        → RuleKept m a i hd.value x.value.start x.value.part
         → RuleRead text p i b a (Ok x.end)
-    rule_read x g k kept = (
+    rule_read {m} {a} x g k kept = (
       omega (arith, h.0, k.0),
       k.1,
       λ xs l.
@@ -312,7 +312,8 @@ module _ (text : List ℕ) (p i : ℕ) (b : Table) where
             rest = w.rest;
             remains = w.remains;
             goes = λ _ n r q. v.goes tt n r (w.goes of_rule n r q);
-            item = rule_item i hd.value x.value g kept v.item w.item;
+            item = rule_item i hd.value x.value.part g
+                (subst (λ s. RuleKept m a i hd.value s x.value.part) w.item.0 kept) v.item w.item.1;
           },
     )
 
@@ -331,7 +332,7 @@ not_a_rule line_mark y z says_mark = z refl
 mark_item :
     {text : List ℕ} {b m a : Table} (q : ℕ) (part : Part) {us zs : Tokens}
     → Grown b m
-    → MarkKept m a q b.node_count part
+    → MarkKept m a q (entered b) part
     → BodyIs text b m part us zs
     → zs ≡ []
     → (f : Mark) × IsMark (at mark q ∷ us) [] f
@@ -391,7 +392,7 @@ module _ (text : List ℕ) (p : ℕ) (b : Table) (h : Ahead) (k : Peeked text p 
     mark_body_stops f o xs l y = mark_body_stopped f o (seen_as text p h k is xs l)
 
     module _
-        {m : Table} (x : Read Part) (o : BodyRead text h.end b m (Ok x)) (g : Ahead)
+        {m : Table} (x : Read Body) (o : BodyRead text h.end b m (Ok x)) (g : Ahead)
         (u : Peeked text x.end g) where
       after_end :
           {c : Class} {q e : ℕ} {zs : Tokens}
@@ -427,19 +428,19 @@ module _ (text : List ℕ) (p : ℕ) (b : Table) (h : Ahead) (k : Peeked text p 
       mark_came :
           {a : Table} {q : ℕ} {xs : Tokens}
           → Grown b m
-          → MarkKept m a q b.node_count x.value
+          → MarkKept m a q x.value.start x.value.part
           → g.class ≡ class.End
           → Seen text xs class.Mark q h.end
           → (f : Mark) × IsMark xs [] f
           × ((fs : List Field) (rs : List Rule) → Lines text b fs rs → Holds text a (sheet fs rs f))
-      mark_came gr kept e (a_token {p = q} {xs = us} says_mark l) =
+      mark_came {a} gr kept e (a_token {p = q} {xs = us} says_mark l) =
           let v = o.2 us l in
-          mark_item q x.value gr kept v.item (end_of (seen_as text x.end g u e v.rest v.remains))
+          mark_item q x.value.part gr (subst (λ s. MarkKept m a q s x.value.part) v.item.0 kept) v.item.1 (end_of (seen_as text x.end g u e v.rest v.remains))
 
       pub mark_read :
           {a : Table}
           → Grown b m
-          → MarkKept m a h.place b.node_count x.value
+          → MarkKept m a h.place x.value.start x.value.part
           → g.class ≡ class.End
           → (xs : Tokens) → Left text p xs
           → (f : Mark) × IsMark xs [] f

@@ -1,5 +1,5 @@
 -- What reading the lines of a sheet gives: the sheet that they are, or where they are refused.
-use Rattle.std.proofs.Common.{◌≡◌, ℕ, ◌≤◌, List, [], ◌∷◌, ◌++◌, length, None, Ok, Err, Result, sym, refl, subst, append_assoc, append-nil, arith}
+use Rattle.std.proofs.Common.{◌≡◌, ℕ, ◌≤◌, List, [], ◌∷◌, ◌++◌, length, None, Ok, Err, Result, sym, refl, ap, subst, append_assoc, append-nil, arith}
 use Rattle.refusal.specs.declared.Fault.{Fault}
 use Rattle.refusal.specs.Table as table
 use Rattle.grammar.specs.declared.token.Class.{Class}
@@ -58,25 +58,25 @@ no_first :
     → ⊥
 no_first z (asked is_field) says_field = z refl
 
-module _ (text : List ℕ) (h : Ahead) (k : Peeked text 0 h) where
+module _ (text : List ℕ) (p : ℕ) (h : Ahead) (k : Peeked text p h) where
   pub first_read :
       (b a : Table) (r : Result ℕ Fault)
       → h.class ≡ class.Field
       → FieldRead text h.end h.place b a r
-      → FirstRead text b a r
+      → FirstRead text p b a r
   first_read b a (Ok q) is o =
-      let g = real text 0 h k (λ e. no (cc)) in
-      (omega (arith, g.0, o.0), o.1, λ xs l. first_came o (seen_as text 0 h k is xs l))
-  first_read b a (Err f) is o = λ xs l. first_stopped b a o (seen_as text 0 h k is xs l)
+      let g = real text p h k (λ e. no (cc)) in
+      (omega (arith, g.0, o.0), o.1, λ xs l. first_came o (seen_as text p h k is xs l))
+  first_read b a (Err f) is o = λ xs l. first_stopped b a o (seen_as text p h k is xs l)
 
   pub first_stops :
       (b : Table) (f : Fault)
       → f ≡ refused_at h.place
       → (h.class ≡ class.Field → ⊥)
-      → FirstRead text b b (Err f)
+      → FirstRead text p b b (Err f)
   first_stops b f e z xs l = stops (λ _. start) f e (h_seen xs l) (λ c. tt) (λ c t i n u m s. no_first z m s)
     where
-      h_seen : (xs : Tokens) → Left text 0 xs → Seen text xs h.class h.place h.end
+      h_seen : (xs : Tokens) → Left text p xs → Seen text xs h.class h.place h.end
       h_seen = k.seen
 
 -- Lines of one kind, one after another
@@ -302,10 +302,10 @@ refuses {text} {f} h ts cut =
     (refused (length text) (s.halts tt))
 
 module _ (text : List ℕ) (b : Table) where
-  pub parse_first : (f : Fault) → FirstRead text b b (Err f) → Parsed text (Err f)
+  pub parse_first : (f : Fault) → FirstRead text 0 b b (Err f) → Parsed text (Err f)
   parse_first f h = refuses h
 
-  module _ (p : ℕ) (a : Table) (h : FirstRead text b a (Ok p)) where
+  module _ (p : ℕ) (a : Table) (h : FirstRead text 0 b a (Ok p)) where
     pub parse_fields : (f : Fault) → FieldsRead text p a a (Err f) → Parsed text (Err f)
     parse_fields f k = refuses (λ xs l.
         let v = h.2 xs l in
@@ -343,7 +343,7 @@ module _ (text : List ℕ) (b : Table) where
         parsed_ok :
             (e : Table)
             → MarkRead text r d e (Ok tt)
-            → b.node_count ≡ 0
+            → b.nodes.items ≡ []
             → b.over ≡ None
             → LinesAbove text b [] [] 0
             → Parsed text (Ok e)
@@ -355,7 +355,7 @@ module _ (text : List ℕ) (b : Table) where
             let f = v.item in
             let fs = u.item in
             let rs = y.item in
-            let blank : Lines text b [] [] = all_kept o (subst (LinesAbove text b [] []) (sym z) n) in
+            let blank : Lines text b [] [] = all_kept o (subst (LinesAbove text b [] []) (sym (ap length z)) n) in
             let s = sheet (f.0 ∷ fs.0) rs.0 m.0 in
             let d : IsSheet (tokens ts) s = a_sheet f.1 fs.1 rs.1 m.1 in (
               s,
@@ -367,7 +367,7 @@ module _ (text : List ℕ) (b : Table) where
         pub parsed :
             (e : Table) (x : Result (Unit {0}) Fault)
             → MarkRead text r d e x
-            → b.node_count ≡ 0
+            → b.nodes.items ≡ []
             → b.over ≡ None
             → LinesAbove text b [] [] 0
             → Parsed text (parsed_to e x)

@@ -8,12 +8,11 @@ use Rattle.grammar.specs.declared.table.Term.TheVariants as entry
 use Rattle.grammar.specs.declared.token.Class.{Class}
 use Rattle.grammar.specs.declared.token.Class.TheVariants as class
 use Rattle.grammar.specs.declared.token.Ahead.{Ahead}
-use Rattle.grammar.specs.declared.token.Read.{Read}
 use Rattle.grammar.specs.Syntax.{Word, word, num, constant, bare, raised, lowered}
 use Rattle.grammar.specs.Grammar.{Tok, name, number, plus, minus, at, Tokens, IsTerm, a_constant, a_bare, a_sum, a_difference}
 use Rattle.grammar.specs.Tables.{word_of, term_of}
 use Rattle.grammar.specs.Moves.{State, term, summed, NoSum, term_number, term_name, sum_plus, sum_minus, no_sum, Halts, goes_on, halts_token, halts_deep, halts_mixed, halts_end}
-use Rattle.grammar.specs.Parsing.{Says, says_name, says_number, says_field, says_rule, says_mark, says_not, says_pick, says_join, says_sign, says_opening, says_closing, says_comma, says_semicolon, says_colon, says_plus, says_minus, Seen, no_token, a_token, Peeked, Stopped, Came, IsNumber, a_number, NumberRead, TermRead, SumRead}
+use Rattle.grammar.specs.Parsing.{Read, Says, says_name, says_number, says_field, says_rule, says_mark, says_not, says_pick, says_join, says_sign, says_opening, says_closing, says_comma, says_semicolon, says_colon, says_plus, says_minus, Seen, no_token, a_token, Peeked, Stopped, Came, IsNumber, a_number, NumberRead, TermRead, SumRead}
 use Rattle.grammar.proofs.Next.{not_summed}
 use Rattle.grammar.proofs.Leaves.{no, refused_at, Stuck, stops, real, seen_as}
 

@@ -1,5 +1,5 @@
 -- Formulas and units, which contain each other: what reading one gives, from what reading its parts gives.
-use Rattle.std.proofs.Common.{◌≡◌, ℕ, ◌+◌, ◌-◌, ◌<◌, List, [], ◌∷◌, Ok, Err, Result, sym, refl, ap, subst, arith}
+use Rattle.std.proofs.Common.{◌≡◌, ℕ, ◌+◌, ◌-◌, ◌<◌, Option, List, [], ◌∷◌, Ok, Err, Result, sym, refl, ap, subst, arith}
 use Rattle.refusal.specs.declared.Fault.{Fault}
 use Rattle.refusal.specs.Table as table
 use Rattle.formula.specs.declared.Join.{Join}
@@ -8,7 +8,6 @@ use Rattle.grammar.specs.declared.table.Term.TheVariants as entry
 use Rattle.grammar.specs.declared.token.Class.{Class}
 use Rattle.grammar.specs.declared.token.Class.TheVariants as class
 use Rattle.grammar.specs.declared.token.Ahead.{Ahead}
-use Rattle.grammar.specs.declared.token.Read.{Read}
 use Rattle.refusal.specs.declared.Refusal.TheVariants.{TooDeep, JoinMixes}
 use Rattle.grammar.specs.declared.table.Weights.{Weights as WeightsEntry}
 use Rattle.grammar.specs.declared.table.Node.TheVariants as node
@@ -17,7 +16,7 @@ use Rattle.grammar.specs.declared.formula_part.Part.{Part}
 use Rattle.grammar.specs.Syntax.{Word, Formula, negated, picked}
 use Rattle.grammar.specs.Tables.{word_of}
 use Rattle.grammar.specs.Moves.{State, Open, inner, allowance, a_unit, more, after_join, Need, level, like, Move, unit_number, unit_name, unit_not, unit_pick, unit_bracket, next_join, bracket_end, Halts, goes_on, halts_token, halts_deep, halts_mixed, halts_end}
-use Rattle.grammar.specs.Parsing.{Left, Says, says_name, says_number, says_opening, says_not, says_pick, says_join, Seen, no_token, a_token, Peeked, Stopped, Came, NameRead, Grown, Pushed, FormulaIs, Measured, Around, ComparisonRead, NamedRead, UnitRead, WeightsRead, NoJoin, FormulaRead, Expected, FirstIs, first_is}
+use Rattle.grammar.specs.Parsing.{Read, around, Left, Says, says_name, says_number, says_opening, says_not, says_pick, says_join, Seen, no_token, a_token, Peeked, Stopped, Came, NameRead, Grown, Pushed, FormulaIs, Measured, Around, ComparisonRead, NamedRead, UnitRead, WeightsRead, NoJoin, FormulaRead, Expected, FirstIs, first_is}
 use Rattle.grammar.specs.Grammar.{Tok, pick, join, opening, at, Tokens, IsName, a_name, a_constant, Level, any, only, Fits, strict, unit, formula, Reads, a_not, a_pick, brackets, alone, a_join}
 use Rattle.grammar.specs.Moves.{closing_sign, is_closing, rule_end, mark_end}
 use Rattle.grammar.proofs.Leaves.{no, refused_at, stops, real, seen_as}
@@ -320,16 +319,16 @@ module _ (text : List ℕ) (d p : ℕ) (b a : Table) (h : Ahead) (k : Peeked tex
   name_unit w (Err f) is o = λ xs l. name_stopped text d b a o (seen_as text p h k is xs l)
 
   pub not_unit :
-      {i : ℕ} {m : Table} (x y : Read Part)
+      {i : ℕ} {m : Table} (x : Read Part) (y : Part)
       → h.class ≡ class.Not
       → 0 < d
       → UnitRead text (d - 1) h.end b m (Ok x)
       → Pushed m a (node.Negated x.value.body) i
-      → y ≡ record { value = record { body = i; size = x.value.size + 1; joins = x.value.joins }; end = x.end }
-      → UnitRead text d p b a (Ok y)
+      → y ≡ around x.value i
+      → UnitRead text d p b a (Ok (record { value = y; end = x.end }))
   not_unit x y is lt o u e =
       let g = real text p h k (λ z. no (cc)) in
-      subst (λ z. UnitRead text d p b a (Ok z)) (sym e)
+      subst (λ z. UnitRead text d p b a (Ok (record { value = z; end = x.end }))) (sym e)
       (omega (arith, g.0, o.0), o.1, λ xs l. not_came text d b a x lt o u (seen_as text p h k is xs l))
 
   pub not_stops :
@@ -341,17 +340,17 @@ module _ (text : List ℕ) (d p : ℕ) (b a : Table) (h : Ahead) (k : Peeked tex
   not_stops f is lt o xs l = not_stopped text d b a lt o (seen_as text p h k is xs l)
 
   pub pick_unit :
-      {i : ℕ} {m : Table} (w : Read WordEntry) (x y : Read Part)
+      {i : ℕ} {m : Table} (w : Read WordEntry) (x : Read Part) (y : Part)
       → h.class ≡ class.Pick
       → 0 < d
       → NameRead text h.end (Ok w)
       → UnitRead text (d - 1) w.end b m (Ok x)
       → Pushed m a (node.Picked w.value x.value.body) i
-      → y ≡ record { value = record { body = i; size = x.value.size + 1; joins = x.value.joins }; end = x.end }
-      → UnitRead text d p b a (Ok y)
+      → y ≡ around x.value i
+      → UnitRead text d p b a (Ok (record { value = y; end = x.end }))
   pick_unit w x y is lt v o u e =
       let g = real text p h k (λ z. no (cc)) in
-      subst (λ z. UnitRead text d p b a (Ok z)) (sym e) (
+      subst (λ z. UnitRead text d p b a (Ok (record { value = z; end = x.end }))) (sym e) (
         omega (arith, g.0, v.0, o.0),
         o.1,
         λ xs l. pick_came text d b a w x lt v o u
@@ -563,9 +562,6 @@ module _ (text : List ℕ) (d p : ℕ) (l : Level) where
         mixed_from _ refl z v.goes (seen_as text x.end h k is v.rest v.remains)
 
     -- after the join
-    abbrev Room : Type 0
-    Room = (o : Open) × (allowance o ≡ d)
-
     joined_halts :
         {q e : ℕ} {xs zs : Tokens}
         → Fits strict l j
@@ -589,7 +585,7 @@ module _ (text : List ℕ) (d p : ℕ) (l : Level) where
         record { rest = s.rest; there = s.there; halts = λ c. y.3 c.0 _ _ (s.halts (j, c.0)) }
 
     pub right_stops :
-        (w : Read WeightsEntry) (f : Fault)
+        (w : Read (Option WeightsEntry)) (f : Fault)
         → Fits strict l j
         → WeightsRead text h.end (Ok w)
         → FormulaRead text d (only j) w.end b b (Err f)
@@ -608,7 +604,7 @@ module _ (text : List ℕ) (d p : ℕ) (l : Level) where
         }
 
     pub join_formula :
-        {n a : Table} {i : ℕ} (w : Read WeightsEntry) (y : Read Part)
+        {n a : Table} {i : ℕ} (w : Read (Option WeightsEntry)) (y : Read Part)
         → Fits strict l j
         → WeightsRead text h.end (Ok w)
         → Grown m n
@@ -655,10 +651,10 @@ module _ (text : List ℕ) (d p : ℕ) (l : Level) where
 
 -- a formula around a part is measured one more
 pub within_measured :
-    (p q i : ℕ) (x y : Read Part)
-    → y ≡ record { value = record { body = i; size = x.value.size + 1; joins = x.value.joins }; end = x.end }
+    (p q i e : ℕ) (x y : Part)
+    → y ≡ around x i
     → p < q
-    → Measured q (Ok x)
-    → Measured p (Ok y)
-within_measured p q i x y e lt m =
-    subst (λ z. Measured p (Ok z)) (sym e) (omega arith, omega (arith, m.1), omega (arith, m.2))
+    → Measured q (Ok (record { value = x; end = e }))
+    → Measured p (Ok (record { value = y; end = e }))
+within_measured p q i e x y is lt m =
+    subst (λ z. Measured p (Ok (record { value = z; end = e }))) (sym is) (omega arith, omega (arith, m.1), omega (arith, m.2))

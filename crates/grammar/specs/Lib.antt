@@ -8,3 +8,4 @@ pub mod Tokens
 pub mod Answers
 pub mod Moves
 pub mod Parsing
+pub mod Listings

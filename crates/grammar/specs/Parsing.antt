@@ -1,8 +1,10 @@
 -- Only private contracts and proofs cite this file: what the inner functions of the parser answer.
 -- They work with places in the text. `Left text p xs` says which tokens are left from a place on.
-use Rattle.std.specs.Prelude.{◌≡◌, ℕ, ◌+◌, ◌<◌, ◌≤◌, cond, ◌⊎◌, List, [], ◌∷◌, ◌++◌, map, length, take, Some, None, Ok, Err, codes, Result, ◌≢◌}
+use Rattle.std.specs.Prelude.{◌≡◌, ℕ, ◌+◌, ◌<◌, ◌≤◌, cond, ◌⊎◌, List, [], ◌∷◌, ◌++◌, map, length, take, Option, Some, None, Ok, Err, codes, Result, ◌≢◌}
 use Rattle.std.specs.Str.{bytes_eq}
+use Rattle.arrayvec.specs.ArrayVec.{array_vec_len}
 use Rattle.refusal.specs.declared.Fault.{Fault}
+use Rattle.refusal.specs.declared.Refusal.TheVariants.{TokenNotPermitted}
 use Rattle.refusal.specs.Table as table
 use Rattle.formula.specs.declared.Comparison.{Comparison}
 use Rattle.formula.specs.declared.Join.{Join}
@@ -19,21 +21,18 @@ use Rattle.grammar.specs.declared.table.Node.{Node}
 use Rattle.grammar.specs.declared.table.Table.{Table}
 use Rattle.grammar.specs.declared.table.FieldLine.{FieldLine}
 use Rattle.grammar.specs.declared.formula_part.Part.{Part}
+use Rattle.grammar.specs.declared.body.Body.{Body}
 use Rattle.grammar.specs.declared.line.Head.{Head}
-use Rattle.grammar.specs.declared.formula_part.Level.{Level as LevelEntry}
-use Rattle.grammar.specs.declared.formula_part.Level.TheVariants as level
 use Rattle.grammar.specs.declared.list.Few.{Few}
-use Rattle.grammar.specs.declared.token.Read.{Read}
-use Rattle.grammar.specs.declared.token.Fixed.{Fixed}
-use Rattle.grammar.specs.declared.token.Fixed.TheVariants as fixed
+use Rattle.grammar.specs.declared.cursor.Cursor.{Cursor}
 use Rattle.grammar.specs.declared.token.Class.{Class}
 use Rattle.grammar.specs.declared.token.Class.TheVariants as class
 use Rattle.grammar.specs.declared.token.Ahead.{Ahead}
-use Rattle.grammar.specs.Syntax.{Word, word, Number, num, Term, Formula, Field, field_line, Rule, rule_line, Mark, mark_line, sheet}
+use Rattle.grammar.specs.Syntax.{Word, word, Number, num, Formula, Field, field_line, Rule, rule_line, Mark, mark_line, sheet}
 use Rattle.grammar.specs.Grammar.{Tok, name, number, field, rule, mark, not, pick, join, sign, opening, closing, comma, semicolon, colon, plus, minus, at, Tokens, Parted, Listed, IsName, IsTerm, IsWeights, Level, any, only, Kind, unit, formula, Reads, IsField, IsRule, IsMark, Many}
 use Rattle.grammar.specs.Tokens.{tokens}
 use Rattle.grammar.specs.Tables.{word_of, number_of, term_of, weights_of, node_at, Entries, size, joins, field_of, LinesAbove, Over, Holds}
-use Rattle.grammar.specs.Moves.{Shape, some_name, some_number, some_sign, opening_sign, closing_sign, semicolon_sign, colon_sign, Is, State, expects, names, term, summed, terms, a_unit, named, more, after_join, Line, of_rule, of_mark, Open, whole, allowance, compared_with, fields, rules, ended, start, field_rest, rule_rest, Halts, place_of}
+use Rattle.grammar.specs.Moves.{Shape, some_name, some_number, some_sign, opening_sign, closing_sign, semicolon_sign, colon_sign, Is, Need, free, Move, Unfinished, State, expects, names, more_names, term, summed, terms, more_terms, a_unit, named, more, after_join, Line, of_rule, of_mark, Open, whole, allowance, compared_with, fields, rules, ended, start, field_rest, rule_rest, Halts, place_of}
 
 -- from place p on the text is cut into the tokens xs
 pub data Left (text : List ℕ) (p : ℕ) : Tokens → Type 0 where
@@ -95,6 +94,56 @@ pub record Peeked (text : List ℕ) (p : ℕ) (a : Ahead) : Type 0 where
   pub onward : (a.class ≢ class.End) → (p < a.end) × (a.end ≤ length text)
   pub seen : (xs : Tokens) → Left text p xs → Seen text xs a.class a.place a.end
 
+-- what was read, and the place after it
+pub record Read (A : Type 0) : Type 0 where
+  pub value : A
+  pub end : ℕ
+
+-- what is read up to a place
+abbrev pub read_to : {A : Type 0} → ℕ → Result A Fault → Result (Read A) Fault
+read_to q (Ok v) = Ok (record { value = v; end = q })
+read_to q (Err f) = Err f
+
+-- the place up to which something is read
+abbrev pub passed_to : {A : Type 0} → ℕ → Result A Fault → Result ℕ Fault
+passed_to q (Ok v) = Ok q
+passed_to q (Err f) = Err f
+
+-- from one state of the cursor to another its text is the same, of which P holds
+abbrev pub Along : Cursor → Cursor → (List ℕ → Type 0) → Type 0
+Along b a P = (text : List ℕ) → b.text.now ≡ text → (a.text.now ≡ text) × P text
+
+-- the token ahead of the cursor
+abbrev pub Sees : Cursor → Ahead → Type 0
+Sees c h = (text : List ℕ) → c.text.now ≡ text → Peeked text c.at h
+
+-- what is read moves the cursor past it
+abbrev pub Takes : {A : Type 0} → Cursor → Cursor → Result A Fault → (List ℕ → ℕ → Result (Read A) Fault → Type 0) → Type 0
+Takes b a r Item = Along b a (λ text. Item text b.at (read_to a.at r))
+
+-- so too where only the place after it is known
+abbrev pub Passes : {A : Type 0} → Cursor → Cursor → Result A Fault → (List ℕ → ℕ → Result ℕ Fault → Type 0) → Type 0
+Passes b a r Item = Along b a (λ text. Item text b.at (passed_to a.at r))
+
+-- the token ahead is passed if something was found in it, and else refused
+abbrev pub Taken : {A : Type 0} → Cursor → Cursor → Ahead → Option A → Result A Fault → Type 0
+Taken b a h (Some v) r = (r ≡ Ok v) × (a.at ≡ h.end) × (a.text.now ≡ b.text.now)
+Taken b a h None r =
+    (r ≡ Err (record { refusal = TokenNotPermitted; place = h.place })) × (a.text.now ≡ b.text.now)
+
+-- the name, the number or the sign of comparison that a token is
+abbrev pub name_in : Class → Option WordEntry
+name_in (class.Name v) = Some v
+name_in _ = None
+
+abbrev pub number_in : Class → ℕ → Option NumberEntry
+number_in (class.Number n) p = Some (record { value = n; place = p })
+number_in _ p = None
+
+abbrev pub sign_in : Class → Option Comparison
+sign_in (class.Compare c) = Some c
+sign_in _ = None
+
 -- Stopped text C before xs f: whatever c is to come, from the state `before c` the tokens xs halt with the fault f
 pub record Stopped (text : List ℕ) (C : Type 0) (before : C → State) (xs : Tokens) (f : Fault) : Type 0 where
   pub rest : Tokens
@@ -154,19 +203,12 @@ SumRead text p v (Ok x) =
     (w : List ℕ) (i : ℕ) → word_of text v ≡ word w i → IsTerm (at (name w) i ∷ xs) us (term_of text x.value)))
 SumRead text p v (Err f) = (xs : Tokens) → Left text p xs → Stopped text State summed xs f
 
--- the class of a sign that is asked for
-abbrev pub fixed_class : Fixed → Class
-fixed_class fixed.Opening = class.Opening
-fixed_class fixed.Closing = class.Closing
-fixed_class fixed.Semicolon = class.Semicolon
-fixed_class fixed.Colon = class.Colon
-
--- its kind
-abbrev pub fixed_shape : Fixed → Shape
-fixed_shape fixed.Opening = opening_sign
-fixed_shape fixed.Closing = closing_sign
-fixed_shape fixed.Semicolon = semicolon_sign
-fixed_shape fixed.Colon = colon_sign
+-- the class of a sign that is asked for, and its kind
+pub data Fixed : Class → Shape → Type 0 where
+  fixed_opening : Fixed class.Opening opening_sign
+  fixed_closing : Fixed class.Closing closing_sign
+  fixed_semicolon : Fixed class.Semicolon semicolon_sign
+  fixed_colon : Fixed class.Colon colon_sign
 
 -- the tokens begin with one of the kind, and go on with r
 pub data FirstIs (k : Shape) : Tokens → Tokens → Type 0 where
@@ -181,29 +223,74 @@ Expected text p k (Err f) =
     (xs : Tokens) → Left text p xs
     → (table.number f.refusal ≡ 4) × (f.place ≡ place_of (length text) xs) × ((us : Tokens) → FirstIs k xs us → ⊥)
 
+-- so for a sign of that class
+abbrev pub Asked : Class → List ℕ → ℕ → Result ℕ Fault → Type 0
+Asked c text p r = (k : Shape) → Fixed c k → Expected text p k r
+
 -- the list counts all the items, and holds the first four
 pub record Holds4 (X : Type 0) (list : Few X) (all : List X) : Type 0 where
   pub room : length list.items ≡ 4
   pub counts : list.count ≡ length all
   pub holds : take list.count list.items ≡ take 4 all
 
--- items in brackets, as entries of a text
-abbrev pub ListRead :
-    (text : List ℕ) (p : ℕ) (X A : Type 0) → (X → A) → (Tokens → Tokens → A → Type 0) → (State → State)
-    → Result (Read (Few X)) Fault
+-- the states of a list in brackets: before it, after an item, and where an item is due
+pub record Listing : Type 0 where
+  pub before : State → State
+  pub after : State → State
+  pub due : State → State
+
+-- the moves of a list in brackets
+pub record Brackets (g : Listing) : Type 0 where
+  pub ends_first : (s : State) → Move (g.before s) closing free s
+  pub ends_more : (s : State) → Move (g.after s) closing free s
+  pub goes_more : (s : State) → Move (g.after s) comma free (g.due (g.after s))
+  pub unfinished : (s : State) → Unfinished (g.after s)
+  -- only a comma or a closing bracket stands after an item
+  pub stuck :
+      (text : List ℕ) (k : Class) → (k ≡ class.Comma → ⊥) → (k ≡ class.Closing → ⊥) → (s : State)
+      → (t : Tok) (i : ℕ) (n : Need) (u : State) → Move (g.after s) t n u → Says text k t i → ⊥
+  -- where no closing bracket stands, a list begins with an item
+  pub begins :
+      (text : List ℕ) (k : Class) (q e : ℕ) (xs : Tokens)
+      → (k ≡ class.Closing → ⊥)
+      → Seen text xs k q e
+      → (s : State) (n : ℕ) (r : Tokens)
+      → Halts (g.due (g.after s)) xs n r
+      → Halts (g.before s) xs n r
+
+-- an item of a list
+abbrev pub ItemRead :
+    {X : Type 0} → Listing → (List ℕ → Tokens → Tokens → X → Type 0) → List ℕ → ℕ → Result (Read X) Fault → Type 0
+ItemRead {X} g Item text p r = Outcome text p State g.due (λ s. s) X (λ v xs us. Item text xs us v) r
+
+-- a list in brackets
+abbrev pub ItemsRead :
+    {X : Type 0} → Listing → (List ℕ → Tokens → Tokens → X → Type 0) → List ℕ → ℕ → Result (Read (Few X)) Fault
     → Type 0
-ListRead text p X A of Item listed r =
-    Outcome text p State listed (λ s. s) (Few X) (λ v xs us. (all : List X) × Holds4 X v all × Listed A Item xs us (map of all)) r
+ItemsRead {X} g Item text p r =
+    Outcome text p State g.before (λ s. s) (Few X) (λ v xs us. (all : List X) × Holds4 X v all × Listed X (Item text) xs us all) r
+
+abbrev pub term_listing : Listing
+term_listing = record { before = terms; after = more_terms; due = term }
+
+abbrev pub name_listing : Listing
+name_listing = record { before = names; after = more_names; due = expects some_name }
+
+abbrev pub TermAt : List ℕ → Tokens → Tokens → TermEntry → Type 0
+TermAt text xs us t = IsTerm xs us (term_of text t)
+
+abbrev pub NameAt : List ℕ → Tokens → Tokens → WordEntry → Type 0
+NameAt text xs us v = IsName xs us (word_of text v)
 
 abbrev pub TermsRead : List ℕ → ℕ → Result (Read (Few TermEntry)) Fault → Type 0
-TermsRead text p r = ListRead text p TermEntry Term (term_of text) IsTerm terms r
+TermsRead text p r = ItemsRead term_listing TermAt text p r
 
 abbrev pub NamesRead : List ℕ → ℕ → Result (Read (Few WordEntry)) Fault → Type 0
-NamesRead text p r = ListRead text p WordEntry Word (word_of text) IsName names r
+NamesRead text p r = ItemsRead name_listing NameAt text p r
 
 -- Begun ..: of the items in brackets that xs begins with, those of the list are read, and one more is due at place q
 pub record Begun
-    (text : List ℕ) (X A : Type 0) (of : X → A) (Item : Tokens → Tokens → A → Type 0) (listed due : State → State)
+    (text : List ℕ) (X : Type 0) (Item : Tokens → Tokens → X → Type 0) (listed due : State → State)
     (xs : Tokens) (list : Few X) (q : ℕ)
     : Type 0 where
   pub rest : Tokens
@@ -211,36 +298,39 @@ pub record Begun
   pub goes : (s : State) (n : ℕ) (r : Tokens) → Halts (due s) rest n r → Halts (listed s) xs n r
   pub all : List X
   pub held : Holds4 X list all
-  pub joins : (r : Tokens) (bs : List A) → Parted A Item rest r bs → Parted A Item xs r (map of all ++ bs)
+  pub joins : (r : Tokens) (bs : List X) → Parted X Item rest r bs → Parted X Item xs r (all ++ bs)
+
+-- how many entries a table has
+abbrev pub entered : Table → ℕ
+entered t = array_vec_len t.nodes
 
 -- Only entries are added to the table, after those in use.
 pub record Grown (b a : Table) : Type 0 where
-  pub fields : (a.fields ≡ b.fields) × (a.field_count ≡ b.field_count)
-  pub rules : (a.rules ≡ b.rules) × (a.rule_count ≡ b.rule_count)
+  pub fields : a.fields ≡ b.fields
+  pub rules : a.rules ≡ b.rules
   pub others : (a.mark ≡ b.mark) × (a.over ≡ b.over)
-  pub grows : b.node_count ≤ a.node_count
-  pub room : b.node_count ≤ 256 → a.node_count ≤ 256
-  pub same : (k : ℕ) → k < b.node_count → node_at a.nodes k ≡ node_at b.nodes k
+  pub grows : entered b ≤ entered a
+  pub same : (k : ℕ) → k < entered b → node_at a.nodes.items k ≡ node_at b.nodes.items k
 
 -- the entry is added at i, if there is room
 pub record Pushed (b a : Table) (n : Node) (i : ℕ) : Type 0 where
   pub grown : Grown b a
   pub there :
-      b.node_count < 256
-      → (i ≡ b.node_count) × (a.node_count ≡ b.node_count + 1) × (node_at a.nodes i ≡ n)
+      entered b < 256
+      → (i ≡ entered b) × (entered a ≡ entered b + 1) × (node_at a.nodes.items i ≡ n)
 
 -- the formula f is entered in the table, if there is room
 pub record Entered (text : List ℕ) (b a : Table) (part : Part) (f : Formula) : Type 0 where
   pub sized : size f ≡ part.size
   pub joined : joins f ≡ part.joins
   pub held :
-      b.node_count + size f ≤ 256
-      → Entries text a.nodes b.node_count part.body f
-      × (a.node_count ≡ b.node_count + size f) × (part.body + 1 ≡ a.node_count)
+      entered b + size f ≤ 256
+      → Entries text a.nodes.items (entered b) part.body f
+      × (entered a ≡ entered b + size f) × (part.body + 1 ≡ entered a)
 
 -- the part of the entry i around this one
-abbrev pub around : Read Part → ℕ → Read Part
-around x i = record { value = record { body = i; size = x.value.size + 1; joins = x.value.joins }; end = x.end }
+abbrev pub around : Part → ℕ → Part
+around part i = record { body = i; size = part.size + 1; joins = part.joins }
 
 -- a formula that is read, and entered
 abbrev pub FormulaIs : List ℕ → Kind → ℕ → Table → Table → Part → Tokens → Tokens → Type 0
@@ -282,7 +372,7 @@ UnitRead text d p b a r =
     Outcome text p Around (λ c. a_unit d c.0 c.1) (λ c. more c.0 c.1) Part (FormulaIs text unit d b a) r
 
 -- the weights after a join, which may be absent
-abbrev pub WeightsRead : List ℕ → ℕ → Result (Read WeightsEntry) Fault → Type 0
+abbrev pub WeightsRead : List ℕ → ℕ → Result (Read (Option WeightsEntry)) Fault → Type 0
 WeightsRead text p (Ok x) =
     (p ≤ x.end) × (x.end ≤ length text)
     × ((xs : Tokens) → Left text p xs
@@ -292,9 +382,9 @@ WeightsRead text p (Err f) =
     (xs : Tokens) → Left text p xs → Stopped text (Join × Open) (λ c. after_join c.0 c.1) xs f
 
 -- the level that joins keep to
-abbrev pub level_of : LevelEntry → Level
-level_of level.Any = any
-level_of (level.Only j) = only j
+abbrev pub level_of : Option Join → Level
+level_of None = any
+level_of (Some j) = only j
 
 -- the tokens do not begin with a join
 abbrev pub NoJoin : Tokens → Type 0
@@ -331,7 +421,7 @@ pub data LinesKept (text : List ℕ) (t : Table) (fs : List Field) (rs : List Ru
 
 -- the lines of a table are kept at the end of a line
 abbrev pub Lines : List ℕ → Table → List Field → List Rule → Type 0
-Lines text t fs rs = LinesKept text t fs rs t.node_count
+Lines text t fs rs = LinesKept text t fs rs (entered t)
 
 -- a line with n parameters and this formula, from the entry s on, passes a limit
 abbrev pub Passing : ℕ → ℕ → Part → Type 0
@@ -348,14 +438,14 @@ pub record BodyHeld (text : List ℕ) (t : Table) (s : ℕ) (part : Part) (f : F
   pub joined : joins f ≡ part.joins
   pub held :
       s + size f ≤ 256
-      → Entries text t.nodes s part.body f × (t.node_count ≡ s + size f) × (part.body + 1 ≡ t.node_count)
+      → Entries text t.nodes.items s part.body f × (entered t ≡ s + size f) × (part.body + 1 ≡ entered t)
 
 -- a rule line more
 abbrev pub RuleKept : Table → Table → ℕ → Head → ℕ → Part → Type 0
 RuleKept b a first head s part =
     (text : List ℕ) (fs : List Field) (rs : List Rule) (all : List WordEntry) (f : Formula)
     → LinesKept text b fs rs s
-    → s ≤ b.node_count
+    → s ≤ entered b
     → Holds4 WordEntry head.params all
     → BodyHeld text b s part f
     → Lines text a fs (rs ++ rule_line first (word_of text head.name) (map (word_of text) all) f ∷ [])
@@ -394,9 +484,10 @@ pub data BodyIs (text : List ℕ) (b a : Table) (part : Part) : Tokens → Token
       → Entered text b a part f
       → BodyIs text b a part xs us
 
-abbrev pub BodyRead : List ℕ → ℕ → Table → Table → Result (Read Part) Fault → Type 0
+abbrev pub BodyRead : List ℕ → ℕ → Table → Table → Result (Read Body) Fault → Type 0
 BodyRead text p b a r =
-    Outcome text p Line (λ n. a_unit 16 any (whole n)) after_line Part (BodyIs text b a) r
+    Outcome text p Line (λ n. a_unit 16 any (whole n)) after_line Body (λ body xs us.
+    (body.start ≡ entered b) × BodyIs text b a body.part xs us) r
 
 -- a line from place p on: where it ends, or the fault
 abbrev pub LineRead : List ℕ → ℕ → State → State → (Tokens → Tokens → Type 0) → Result ℕ Fault → Type 0
@@ -434,9 +525,9 @@ MarkRead text p b a (Err f) =
     (xs : Tokens) → Left text p xs → NotFirst rule xs → Stopped text (Unit {0}) (λ _. rules) xs f
 
 -- the first line of a sheet, a field line
-abbrev pub FirstRead : List ℕ → Table → Table → Result ℕ Fault → Type 0
-FirstRead text b a r =
-    LineRead text 0 start fields (λ xs us.
+abbrev pub FirstRead : List ℕ → ℕ → Table → Table → Result ℕ Fault → Type 0
+FirstRead text p b a r =
+    LineRead text p start fields (λ xs us.
     (f : Field) × IsField xs us f
     × ((fs : List Field) → Lines text b fs [] → Lines text a (fs ++ f ∷ []) [])) r
 

@@ -1,7 +1,7 @@
 -- What a table stands for: the sheet as written that it holds, line by line, up to a line that passes a count limit.
 -- A formula stands in a table as consecutive entries: its parts one after the other, and then the whole.
 -- At the end: what the names of a sheet may rely on, of every sheet that is read from the tokens of a text.
-use Rattle.std.specs.Prelude.{◌≡◌, ℕ, suc, ◌+◌, ◌<◌, ◌≤◌, max, Bool, true, false, cond, ◌⊎◌, List, [], ◌∷◌, ◌++◌, map, length, take, drop, Some, None, slice_index_or}
+use Rattle.std.specs.Prelude.{◌≡◌, ℕ, suc, ◌+◌, ◌<◌, ◌≤◌, max, Bool, true, false, cond, ◌⊎◌, List, [], ◌∷◌, ◌++◌, map, length, take, drop, Option, Some, None, slice_index_or}
 use Rattle.formula.specs.declared.Comparison.{Comparison}
 use Rattle.formula.specs.declared.Comparison.TheVariants.{Equal}
 use Rattle.formula.specs.declared.Join.{Join}
@@ -11,7 +11,6 @@ use Rattle.grammar.specs.declared.table.Number.{Number as NumberEntry}
 use Rattle.grammar.specs.declared.table.Term.{Term as TermEntry}
 use Rattle.grammar.specs.declared.table.Term.TheVariants.{Constant, Bare, Raised, Lowered}
 use Rattle.grammar.specs.declared.table.Weights.{Weights as WeightsEntry}
-use Rattle.grammar.specs.declared.table.Weights.TheVariants.{Absent, Given}
 use Rattle.grammar.specs.declared.table.Node.{Node}
 use Rattle.grammar.specs.declared.table.Node.TheVariants.{Compared, Called, Negated, Picked, Joined}
 use Rattle.grammar.specs.declared.table.FieldLine.{FieldLine}
@@ -38,9 +37,9 @@ term_of text (Raised w n) = raised (word_of text w) n
 term_of text (Lowered w n) = lowered (word_of text w) n
 
 -- the weights after a join, if they are written
-abbrev pub weights_of : WeightsEntry → Weights
-weights_of Absent = absent
-weights_of (Given v w) = given (number_of v) (number_of w)
+abbrev pub weights_of : Option WeightsEntry → Weights
+weights_of None = absent
+weights_of (Some v) = given (number_of v.left) (number_of v.right)
 
 -- Formulas
 
@@ -79,7 +78,7 @@ pub data Entries (text : List ℕ) (nodes : List Node) : (start body : ℕ) → 
       → Entries text nodes s i (picked w f)
   -- the left part, then the right part, then the join
   a_join :
-      {s a b i : ℕ} {j : Join} {v : WeightsEntry} {w : Weights} {f g : Formula}
+      {s a b i : ℕ} {j : Join} {v : Option WeightsEntry} {w : Weights} {f g : Formula}
       → node_at nodes i ≡ Joined j v a b
       → weights_of v ≡ w
       → i ≡ suc b
@@ -119,15 +118,15 @@ field_of text l = field_line l.first (word_of text l.name) (number_of l.low) (nu
 
 -- the field lines of a table
 abbrev pub fields_of : List ℕ → Table → List Field
-fields_of text t = map (field_of text) (take t.field_count t.fields)
+fields_of text t = map (field_of text) t.fields.items
 
 -- the parameters of a rule line
 abbrev pub params_of : List ℕ → RuleLine → List Word
-params_of text l = map (word_of text) (take l.param_count l.params)
+params_of text l = map (word_of text) l.params.items
 
 -- the rule lines of a table
 abbrev pub rules_of : Table → List RuleLine
-rules_of t = take t.rule_count t.rules
+rules_of t = t.rules.items
 
 -- Rules text nodes s rs xs e: the lines rs hold the rules xs, none over a limit, in the entries from s to before e
 pub data Rules (text : List ℕ) (nodes : List Node) : (s : ℕ) → List RuleLine → List Rule → (e : ℕ) → Type 0 where
@@ -136,7 +135,6 @@ pub data Rules (text : List ℕ) (nodes : List Node) : (s : ℕ) → List RuleLi
       {s p e : ℕ} {l : RuleLine} {ls : List RuleLine} {w : Word} {ps : List Word} {f : Formula} {xs : List Rule}
       → l.first ≡ p
       → word_of text l.name ≡ w
-      → l.param_count ≡ length ps
       → params_of text l ≡ ps
       → l.start ≡ s
       → Entries text nodes s l.body f
@@ -146,12 +144,10 @@ pub data Rules (text : List ℕ) (nodes : List Node) : (s : ℕ) → List RuleLi
 
 -- LinesAbove text t fs rs e: the field and rule lines of the table are fs and rs, none over a limit, in e entries
 pub record LinesAbove (text : List ℕ) (t : Table) (fs : List Field) (rs : List Rule) (e : ℕ) : Type 0 where
-  pub field_count : t.field_count ≡ length fs
   pub few_fields : length fs ≤ 8
   pub fields_held : fields_of text t ≡ fs
-  pub rule_count : t.rule_count ≡ length rs
   pub few_rules : length rs ≤ 16
-  pub rules_held : Rules text t.nodes 0 (rules_of t) rs e
+  pub rules_held : Rules text t.nodes.items 0 (rules_of t) rs e
 
 -- Holds text t s: the table t holds the sheet s
 pub data Holds (text : List ℕ) (t : Table) : Sheet → Type 0 where
@@ -162,7 +158,7 @@ pub data Holds (text : List ℕ) (t : Table) : Sheet → Type 0 where
       → LinesAbove text t fs rs e
       → t.mark.first ≡ p
       → t.mark.start ≡ e
-      → Entries text t.nodes e t.mark.body f
+      → Entries text t.nodes.items e t.mark.body f
       → (Over e [] f → ⊥)
       → Holds text t (sheet fs rs (mark_line p f))
   -- the ninth field line is the first over a limit

@@ -1,17 +1,19 @@
 // What the parser enters in a table.
-ghost use Rattle.std.specs.Prelude.{◌≡◌, ◌<◌, ◌≤◌, Decides};
+ghost use Rattle.std.specs.Prelude.{◌≡◌, Decides};
 ghost use Rattle.grammar.specs.Parsing.{Passing, Pushed, FieldKept, RuleKept, MarkKept};
 
-use crate::formula_part::Part;
+use crate::body::Body;
 use crate::line::Head;
 use crate::table::{FieldLine, MarkLine, Node, RuleLine, Table};
+use arrayvec::ArrayVec;
 
-// Whether a line with so many parameters and this formula, from the entry `start` on, passes a limit.
-fn passes(start: usize, params: usize, part: Part) -> bool
-    requires { start ≤ 256 }
-    ensures { Decides result (Passing start params part) }
-{
-    params > 4 || part.joins > 16 || part.size > 256 - start
+impl Body {
+    // Whether a line with so many parameters and this formula passes a limit.
+    fn passes(self, params: usize) -> bool
+        ensures { Decides result (Passing self.start params self.part) }
+    {
+        params > 4 || self.part.joins > 16 || self.part.size > 256 - self.start
+    }
 }
 
 impl Table {
@@ -19,75 +21,66 @@ impl Table {
     pub(crate) fn push(&mut self, node: Node) -> u8
         ensures { Pushed self.old self.new node result }
     {
-        let at = self.node_count;
-        if at >= 256 {
+        let Ok(at) = u8::try_from(self.nodes.len()) else {
             return 0;
-        }
-        self.nodes[at] = node;
-        self.node_count = at + 1;
-        at as u8
+        };
+        self.nodes.push(node);
+        at
     }
 
     // Keeps a field line. The ninth passes a limit, and nothing is kept from a line on that does.
     pub(crate) fn keep_field(&mut self, line: FieldLine)
-        ensures entries { self.new.node_count ≡ self.old.node_count }
+        ensures entries { self.new.nodes ≡ self.old.nodes }
         ensures lines { FieldKept self.old self.new line }
     {
         if self.over.is_some() {
             return;
         }
-        if self.field_count >= 8 {
+        if self.fields.is_full() {
             self.over = Some(line.first);
             return;
         }
-        self.fields[self.field_count] = line;
-        self.field_count += 1;
+        self.fields.push(line);
     }
 
-    // Keeps a rule line whose formula stands from the entry `start` on, unless it passes a limit.
-    pub(crate) fn keep_rule(&mut self, first: usize, head: Head, start: usize, part: Part)
-        requires room { start ≤ 256 }
-        requires some { 0 < part.size }
-        ensures entries { self.new.node_count ≡ self.old.node_count }
-        ensures lines { RuleKept self.old self.new first head start part }
+    // Keeps a rule line, unless it passes a limit.
+    pub(crate) fn keep_rule(&mut self, first: usize, head: Head, body: Body)
+        ensures entries { self.new.nodes ≡ self.old.nodes }
+        ensures lines { RuleKept self.old self.new first head body.start body.part }
     {
         if self.over.is_some() {
             return;
         }
-        if self.rule_count >= 16 || passes(start, head.params.count, part) {
+        if self.rules.is_full() || body.passes(head.params.count) {
             self.over = Some(first);
             return;
         }
-        let params = head.params.items;
-        let line = RuleLine {
+        let mut params = ArrayVec::from(head.params.items);
+        params.truncate(head.params.count);
+        self.rules.push(RuleLine {
             first,
             name: head.name,
             params,
-            param_count: head.params.count,
-            start: start as u8,
-            body: part.body,
-        };
-        self.rules[self.rule_count] = line;
-        self.rule_count += 1;
+            start: body.start as u8,
+            body: body.part.body,
+        });
     }
 
     // Keeps the mark line, unless it passes a limit.
-    pub(crate) fn keep_mark(&mut self, first: usize, start: usize, part: Part)
-        requires room { start ≤ 256 }
-        requires some { 0 < part.size }
-        ensures lines { MarkKept self.old self.new first start part }
+    pub(crate) fn keep_mark(&mut self, first: usize, body: Body)
+        ensures { MarkKept self.old self.new first body.start body.part }
     {
         if self.over.is_some() {
             return;
         }
-        if passes(start, 0, part) {
+        if body.passes(0) {
             self.over = Some(first);
             return;
         }
         self.mark = MarkLine {
             first,
-            start: start as u8,
-            body: part.body,
+            start: body.start as u8,
+            body: body.part.body,
         };
     }
 }

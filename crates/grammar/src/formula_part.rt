@@ -1,20 +1,16 @@
 // Formulas: a formula and a unit are read by two functions that call each other.
-ghost use Rattle.std.specs.Prelude.{◌≡◌, ◌+◌, ◌<◌, ◌≤◌, length, Decides};
+// The cursor and the table stay two parameters: names, terms and weights are read with no table, and lines are kept
+// with no cursor.
+ghost use Rattle.std.specs.Prelude.{◌≡◌, ◌+◌, ◌<◌, ◌^◌, Decides};
 ghost use Rattle.grammar.specs.Grammar.{Fits, strict};
-ghost use Rattle.grammar.specs.Parsing.{level_of, around, Grown, Measured, ComparisonRead, CallRead, NamedRead, UnitRead, WeightsRead, FormulaRead};
+ghost use Rattle.grammar.specs.Parsing.{read_to, Takes, level_of, around, Grown, Measured, ComparisonRead, CallRead, NamedRead, UnitRead, WeightsRead, FormulaRead};
 
-use crate::table::{Node, Number, Table, Term, Weights, Word};
-use crate::term::{read_sum, read_term, read_terms};
-use crate::token::{Class, Fixed, Read, expect, peek, read_name, read_number, read_sign};
+use crate::cursor::Cursor;
+use crate::list::Few;
+use crate::table::{Node, Table, Term, Weights, Word};
+use crate::token::Class;
 use formula::Join;
 use refusal::{Fault, Refusal};
-
-// Which joins may stand at a level.
-#[derive(Clone, Copy)]
-pub(crate) enum Level {
-    Any,
-    Only(Join),
-}
 
 // A formula that was read: the entry that is the whole, and how many formulas and joins it has.
 #[derive(Clone, Copy)]
@@ -24,195 +20,172 @@ pub(crate) struct Part {
     pub(crate) joins: usize,
 }
 
-impl Level {
-    fn fits(self, join: Join) -> bool
-        ensures { Decides result (Fits strict (level_of self) join) }
-    {
-        match self {
-            Level::Any => true,
-            Level::Only(j) => j == join,
-        }
-    }
+// Whether a join may stand at a level: any, or those of one kind only.
+fn fits(level: Option<Join>, join: Join) -> bool
+    ensures { Decides result (Fits strict (level_of level) join) }
+{
+    level.is_none_or(|only| only == join)
 }
 
-impl Read<Part> {
+impl Part {
     // The formula `body` around this one.
-    fn within(self, body: u8) -> Read<Part>
-        requires { self.value.size < self.end }
+    fn within(self, body: u8) -> Part
+        requires { self.size + 1 < 2 ^ 64 }
         ensures { result ≡ around self body }
     {
-        Read {
-            value: Part {
-                body,
-                size: self.value.size + 1,
-                joins: self.value.joins,
-            },
-            end: self.end,
+        Part {
+            body,
+            size: self.size + 1,
+            joins: self.joins,
         }
     }
 }
 
 // The weights after a join, if they are written.
-fn read_weights(text: &[u8], at: usize) -> Result<Read<Weights>, Fault>
-    requires { at ≤ length text.now }
-    ensures { WeightsRead text.now at result }
+fn read_weights(cursor: &mut Cursor<'_>) -> Result<Option<Weights>, Fault>
+    ensures { Takes cursor.old cursor.new result WeightsRead }
 {
-    let first = peek(text, at);
-    let Class::Number(value) = first.class else {
-        return Ok(Read {
-            value: Weights::Absent,
-            end: at,
-        });
+    let first = cursor.peek();
+    let Some(left) = first.number() else {
+        return Ok(None);
     };
-    let second = peek(text, first.end);
+    let second = Cursor {
+        text: cursor.text,
+        at: first.end,
+    }
+    .peek();
     let Class::Colon = second.class else {
-        return Ok(Read {
-            value: Weights::Absent,
-            end: at,
-        });
+        return Ok(None);
     };
-    let right = read_number(text, second.end)?;
-    let left = Number {
-        value,
-        place: first.place,
-    };
-    Ok(Read {
-        value: Weights::Given(left, right.value),
-        end: right.end,
-    })
+    cursor.at = second.end;
+    let right = cursor.number()?;
+    Ok(Some(Weights { left, right }))
 }
 
 // The rest of a comparison, after its left term.
-fn read_comparison(
-    text: &[u8],
-    at: usize,
-    left: Term,
-    table: &mut Table,
-) -> Result<Read<Part>, Fault>
+fn read_comparison(cursor: &mut Cursor<'_>, left: Term, table: &mut Table) -> Result<Part, Fault>
     ensures grown { Grown table.old table.new }
-    ensures measured { Measured at result }
-    ensures value { ComparisonRead text.now at left table.old table.new result }
+    ensures measured { Measured cursor.old.at (read_to cursor.new.at result) }
+    ensures value { Takes cursor.old cursor.new result (λ text p r. ComparisonRead text p left table.old table.new r) }
 {
-    let sign = read_sign(text, at)?;
-    let right = read_term(text, sign.end)?;
-    let body = table.push(Node::Compared(sign.value, left, right.value));
-    Ok(Read {
-        value: Part {
-            body,
-            size: 1,
-            joins: 0,
-        },
-        end: right.end,
+    let sign = cursor.sign()?;
+    let right = cursor.term()?;
+    let body = table.push(Node::Compared(sign, left, right));
+    Ok(Part {
+        body,
+        size: 1,
+        joins: 0,
     })
 }
 
 // The rest of a call, after its opening bracket.
-fn read_call(text: &[u8], at: usize, word: Word, table: &mut Table) -> Result<Read<Part>, Fault>
-    requires { at ≤ length text.now }
+fn read_call(cursor: &mut Cursor<'_>, word: Word, table: &mut Table) -> Result<Part, Fault>
     ensures grown { Grown table.old table.new }
-    ensures measured { Measured at result }
-    ensures value { CallRead text.now at word table.old table.new result }
+    ensures measured { Measured cursor.old.at (read_to cursor.new.at result) }
+    ensures value { Takes cursor.old cursor.new result (λ text p r. CallRead text p word table.old table.new r) }
 {
-    let terms = read_terms(text, at)?;
-    let body = table.push(Node::Called(word, terms.value.count, terms.value.items));
-    Ok(Read {
-        value: Part {
-            body,
-            size: 1,
-            joins: 0,
-        },
-        end: terms.end,
+    let terms = cursor.list(Few::new(Term::Constant(0)))?;
+    let body = table.push(Node::Called(word, terms.count, terms.items));
+    Ok(Part {
+        body,
+        size: 1,
+        joins: 0,
     })
 }
 
 // The rest of a unit that begins with a name: a call or a comparison.
-fn read_named(text: &[u8], at: usize, word: Word, table: &mut Table) -> Result<Read<Part>, Fault>
-    requires { at ≤ length text.now }
+fn read_named(cursor: &mut Cursor<'_>, word: Word, table: &mut Table) -> Result<Part, Fault>
     ensures grown { Grown table.old table.new }
-    ensures measured { Measured at result }
-    ensures value { NamedRead text.now at word table.old table.new result }
+    ensures measured { Measured cursor.old.at (read_to cursor.new.at result) }
+    ensures value { Takes cursor.old cursor.new result (λ text p r. NamedRead text p word table.old table.new r) }
 {
-    let ahead = peek(text, at);
+    let ahead = cursor.peek();
     if let Class::Opening = ahead.class {
-        return read_call(text, ahead.end, word, table);
+        cursor.at = ahead.end;
+        return read_call(cursor, word, table);
     }
-    let left = read_sum(text, at, word)?;
-    read_comparison(text, left.end, left.value, table)
+    let left = cursor.sum(word)?;
+    read_comparison(cursor, left, table)
 }
 
 // A formula with at most `depth` levels in it, at a level.
 #[cycle(read_formula_read_unit)]
 pub(crate) fn read_formula(
-    text: &[u8],
-    at: usize,
+    cursor: &mut Cursor<'_>,
     depth: u8,
-    level: Level,
+    level: Option<Join>,
     table: &mut Table,
-) -> Result<Read<Part>, Fault>
+) -> Result<Part, Fault>
     ensures grown { Grown table.old table.new }
-    ensures measured { Measured at result }
-    ensures value { FormulaRead text.now depth (level_of level) at table.old table.new result }
+    ensures measured { Measured cursor.old.at (read_to cursor.new.at result) }
+    ensures value { Takes cursor.old cursor.new result (λ text p r. FormulaRead text depth (level_of level) p table.old table.new r) }
 {
-    let left = read_unit(text, at, depth, table)?;
-    let ahead = peek(text, left.end);
+    let left = read_unit(cursor, depth, table)?;
+    let ahead = cursor.peek();
     let Class::Join(join) = ahead.class else {
         return Ok(left);
     };
-    if !level.fits(join) {
+    if !fits(level, join) {
         return Err(Fault {
             refusal: Refusal::JoinMixes,
             place: ahead.place,
         });
     }
-    let weights = read_weights(text, ahead.end)?;
-    let right = read_formula(text, weights.end, depth, Level::Only(join), table)?;
-    let body = table.push(Node::Joined(join, weights.value, left.value.body, right.value.body));
-    let size = left.value.size + right.value.size + 1;
-    let joins = left.value.joins + right.value.joins + 1;
-    Ok(Read {
-        value: Part { body, size, joins },
-        end: right.end,
+    cursor.at = ahead.end;
+    let weights = read_weights(cursor)?;
+    let right = read_formula(cursor, depth, Some(join), table)?;
+    let body = table.push(Node::Joined(join, weights, left.body, right.body));
+    Ok(Part {
+        body,
+        size: left.size + right.size + 1,
+        joins: left.joins + right.joins + 1,
     })
 }
 
 // A unit with at most `depth` levels in it.
 #[cycle(read_formula_read_unit)]
-fn read_unit(text: &[u8], at: usize, depth: u8, table: &mut Table) -> Result<Read<Part>, Fault>
+fn read_unit(cursor: &mut Cursor<'_>, depth: u8, table: &mut Table) -> Result<Part, Fault>
     ensures grown { Grown table.old table.new }
-    ensures measured { Measured at result }
-    ensures value { UnitRead text.now depth at table.old table.new result }
+    ensures measured { Measured cursor.old.at (read_to cursor.new.at result) }
+    ensures value { Takes cursor.old cursor.new result (λ text p r. UnitRead text depth p table.old table.new r) }
 {
-    let ahead = peek(text, at);
+    let ahead = cursor.peek();
     match ahead.class {
-        Class::Number(value) => read_comparison(text, ahead.end, Term::Constant(value), table),
-        Class::Name(word) => read_named(text, ahead.end, word, table),
+        Class::Number(value) => {
+            cursor.at = ahead.end;
+            read_comparison(cursor, Term::Constant(value), table)
+        }
+        Class::Name(word) => {
+            cursor.at = ahead.end;
+            read_named(cursor, word, table)
+        }
         Class::Not => {
             if depth == 0 {
                 return Err(ahead.too_deep());
             }
-            let inner = read_unit(text, ahead.end, depth - 1, table)?;
-            let body = table.push(Node::Negated(inner.value.body));
+            cursor.at = ahead.end;
+            let inner = read_unit(cursor, depth - 1, table)?;
+            let body = table.push(Node::Negated(inner.body));
             Ok(inner.within(body))
         }
         Class::Pick => {
             if depth == 0 {
                 return Err(ahead.too_deep());
             }
-            let name = read_name(text, ahead.end)?;
-            let inner = read_unit(text, name.end, depth - 1, table)?;
-            let body = table.push(Node::Picked(name.value, inner.value.body));
+            cursor.at = ahead.end;
+            let name = cursor.name()?;
+            let inner = read_unit(cursor, depth - 1, table)?;
+            let body = table.push(Node::Picked(name, inner.body));
             Ok(inner.within(body))
         }
         Class::Opening => {
             if depth == 0 {
                 return Err(ahead.too_deep());
             }
-            let inner = read_formula(text, ahead.end, depth - 1, Level::Any, table)?;
-            let end = expect(text, inner.end, Fixed::Closing)?;
-            Ok(Read {
-                value: inner.value,
-                end,
-            })
+            cursor.at = ahead.end;
+            let inner = read_formula(cursor, depth - 1, None, table)?;
+            cursor.expect(Class::Closing)?;
+            Ok(inner)
         }
         _ => Err(ahead.not_permitted()),
     }

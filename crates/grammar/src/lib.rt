@@ -1,8 +1,11 @@
 // The grammar of a sheet.
 #![tactic(auto)]
 
+mod body;
+mod cursor;
 mod fill;
 mod formula_part;
+mod item;
 mod line;
 mod list;
 mod sheet;

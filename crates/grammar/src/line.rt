@@ -1,11 +1,13 @@
 // The lines of a sheet.
-ghost use Rattle.std.specs.Prelude.{◌≡◌, ◌≤◌, length};
-ghost use Rattle.grammar.specs.Parsing.{NamesRead, HeadRead, Grown, Measured, BodyRead, FieldRead, RuleRead, MarkRead};
+ghost use Rattle.std.specs.Prelude.{◌≡◌};
+ghost use Rattle.grammar.specs.Parsing.{Along, Takes, Passes, HeadRead, Grown, BodyRead, FieldRead, RuleRead, MarkRead};
 
-use crate::formula_part::{Level, Part, read_formula};
+use crate::body::Body;
+use crate::cursor::Cursor;
+use crate::formula_part::read_formula;
 use crate::list::Few;
 use crate::table::{FieldLine, Table, Word};
-use crate::token::{Class, Fixed, Read, expect, peek, read_name, read_number};
+use crate::token::Class;
 use refusal::Fault;
 
 // The name of a rule and its parameters.
@@ -15,128 +17,78 @@ pub(crate) struct Head {
     pub(crate) params: Few<Word>,
 }
 
-// The parameters of a rule, and the closing bracket.
-fn read_names(text: &[u8], at: usize) -> Result<Read<Few<Word>>, Fault>
-    requires { at ≤ length text.now }
-    ensures { NamesRead text.now at result }
-{
-    let mut list = Few {
-        items: [Word {
-            place: 0,
-            length: 0,
-        }; 4],
-        count: 0,
-    };
-    let ahead = peek(text, at);
-    if let Class::Closing = ahead.class {
-        return Ok(Read {
-            value: list,
-            end: ahead.end,
-        });
-    }
-    let mut from = at;
-    loop {
-        let name = read_name(text, from)?;
-        list.keep(name.value);
-        let ahead = peek(text, name.end);
-        match ahead.class {
-            Class::Comma => from = ahead.end,
-            Class::Closing => return Ok(Read {
-                value: list,
-                end: ahead.end,
-            }),
-            _ => return Err(ahead.not_permitted()),
-        }
-    }
-}
-
 // The head of a rule, after the word `rule`, up to the colon.
-fn read_head(text: &[u8], at: usize) -> Result<Read<Head>, Fault>
-    ensures { HeadRead text.now at result }
+fn read_head(cursor: &mut Cursor<'_>) -> Result<Head, Fault>
+    ensures { Takes cursor.old cursor.new result HeadRead }
 {
-    let name = read_name(text, at)?;
-    let opening = expect(text, name.end, Fixed::Opening)?;
-    let params = read_names(text, opening)?;
-    let end = expect(text, params.end, Fixed::Colon)?;
-    Ok(Read {
-        value: Head {
-            name: name.value,
-            params: params.value,
-        },
-        end,
-    })
+    let name = cursor.name()?;
+    cursor.expect(Class::Opening)?;
+    let params = cursor.list(Few::new(Word::default()))?;
+    cursor.expect(Class::Colon)?;
+    Ok(Head { name, params })
 }
 
 // The formula of a line, and the semicolon.
-fn read_body(text: &[u8], at: usize, table: &mut Table) -> Result<Read<Part>, Fault>
+fn read_body(cursor: &mut Cursor<'_>, table: &mut Table) -> Result<Body, Fault>
     ensures grown { Grown table.old table.new }
-    ensures measured { Measured at result }
-    ensures value { BodyRead text.now at table.old table.new result }
+    ensures value { Takes cursor.old cursor.new result (λ text p r. BodyRead text p table.old table.new r) }
 {
-    let formula = read_formula(text, at, 16, Level::Any, table)?;
-    let end = expect(text, formula.end, Fixed::Semicolon)?;
-    Ok(Read {
-        value: formula.value,
-        end,
-    })
+    let start = table.nodes.len();
+    let part = read_formula(cursor, 16, None, table)?;
+    cursor.expect(Class::Semicolon)?;
+    Ok(Body { start, part })
 }
 
 // The rest of a field line, after the word `field` at `first`.
 pub(crate) fn read_field(
-    text: &[u8],
-    at: usize,
+    cursor: &mut Cursor<'_>,
     first: usize,
     table: &mut Table,
-) -> Result<usize, Fault>
-    ensures entries { table.new.node_count ≡ table.old.node_count }
-    ensures value { FieldRead text.now at first table.old table.new result }
+) -> Result<(), Fault>
+    ensures entries { table.new.nodes ≡ table.old.nodes }
+    ensures value { Passes cursor.old cursor.new result (λ text p r. FieldRead text p first table.old table.new r) }
 {
-    let name = read_name(text, at)?;
-    let low = read_number(text, name.end)?;
-    let high = read_number(text, low.end)?;
-    let end = expect(text, high.end, Fixed::Semicolon)?;
+    let name = cursor.name()?;
+    let low = cursor.number()?;
+    let high = cursor.number()?;
+    cursor.expect(Class::Semicolon)?;
     table.keep_field(FieldLine {
         first,
-        name: name.value,
-        low: low.value,
-        high: high.value,
+        name,
+        low,
+        high,
     });
-    Ok(end)
+    Ok(())
 }
 
 // The rest of a rule line, after the word `rule` at `first`.
 pub(crate) fn read_rule(
-    text: &[u8],
-    at: usize,
+    cursor: &mut Cursor<'_>,
     first: usize,
     table: &mut Table,
-) -> Result<usize, Fault>
-    requires { table.old.node_count ≤ 256 }
-    ensures room { table.new.node_count ≤ 256 }
-    ensures value { RuleRead text.now at first table.old table.new result }
+) -> Result<(), Fault>
+    ensures { Passes cursor.old cursor.new result (λ text p r. RuleRead text p first table.old table.new r) }
 {
-    let head = read_head(text, at)?;
-    let start = table.node_count;
-    let body = read_body(text, head.end, table)?;
-    table.keep_rule(first, head.value, start, body.value);
-    Ok(body.end)
+    let head = read_head(cursor)?;
+    let body = read_body(cursor, table)?;
+    table.keep_rule(first, head, body);
+    Ok(())
 }
 
 // The mark line, and the end of the text.
-pub(crate) fn read_mark(text: &[u8], at: usize, table: &mut Table) -> Result<(), Fault>
-    requires { table.old.node_count ≤ 256 }
-    ensures { MarkRead text.now at table.old table.new result }
+pub(crate) fn read_mark(cursor: &mut Cursor<'_>, table: &mut Table) -> Result<(), Fault>
+    ensures { Along cursor.old cursor.new (λ text. MarkRead text cursor.old.at table.old table.new result) }
 {
-    let ahead = peek(text, at);
+    let ahead = cursor.peek();
     let Class::Mark = ahead.class else {
         return Err(ahead.not_permitted());
     };
-    let start = table.node_count;
-    let body = read_body(text, ahead.end, table)?;
-    let last = peek(text, body.end);
+    cursor.at = ahead.end;
+    let body = read_body(cursor, table)?;
+    let last = cursor.peek();
     let Class::End = last.class else {
         return Err(last.not_permitted());
     };
-    table.keep_mark(ahead.place, start, body.value);
+    table.keep_mark(ahead.place, body);
     Ok(())
 }

@@ -1,4 +1,5 @@
 // A list of which the first four items are kept, and all are counted.
+// The count is of the items as they are written, of which there may be more than four: no vector of four says that.
 ghost use Rattle.std.specs.Prelude.{◌≡◌, ◌+◌, ◌^◌, ◌<◌, List, [], ◌∷◌, ◌++◌};
 ghost use Rattle.grammar.specs.Parsing.{Holds4};
 
@@ -9,6 +10,16 @@ pub(crate) struct Few<T> {
 }
 
 impl<T: Copy> Few<T> {
+    // A list without items; `blank` stands where none is kept.
+    pub(crate) fn new(blank: T) -> Few<T>
+        ensures { Holds4 T result [] }
+    {
+        Few {
+            items: [blank; 4],
+            count: 0,
+        }
+    }
+
     pub(crate) fn keep(&mut self, item: T)
         requires { self.old.count + 1 < 2 ^ 64 }
         ensures counts { self.new.count ≡ self.old.count + 1 }

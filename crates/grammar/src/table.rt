@@ -1,26 +1,28 @@
 // A sheet as it is written, in tables of fixed size: what the grammar fills and the names are looked up in.
-// A spelling is kept as a span of the text. What a table stands for is said in specs/Tables.antt.
+// A spelling is kept as a span of the text, so that a table borrows nothing. What a table stands for is said in specs/Tables.antt.
 ghost use Rattle.std.specs.Prelude.{◌≡◌, ℕ, List, [], None};
+ghost use Rattle.grammar.specs.declared.table.Node.TheVariants.{Negated};
 ghost use Rattle.grammar.specs.Tables.{LinesAbove};
 
+use arrayvec::ArrayVec;
 use formula::{Comparison, Join};
 
 // A name: the place of its first byte in the text, and how many bytes it has.
-#[derive(Clone, Copy)]
+#[derive(Clone, Copy, PartialEq, Eq, Debug, Default)]
 pub struct Word {
     pub place: usize,
     pub length: usize,
 }
 
 // A number and its place.
-#[derive(Clone, Copy)]
+#[derive(Clone, Copy, PartialEq, Eq, Debug, Default)]
 pub struct Number {
     pub value: u16,
     pub place: usize,
 }
 
 // A number, a name, or a name with `+` or `-` and a number.
-#[derive(Clone, Copy)]
+#[derive(Clone, Copy, PartialEq, Eq, Debug)]
 pub enum Term {
     Constant(u16),
     Bare(Word),
@@ -28,27 +30,27 @@ pub enum Term {
     Lowered(Word, u16),
 }
 
-// The weights after a join, if they are written.
-#[derive(Clone, Copy)]
-pub enum Weights {
-    Absent,
-    Given(Number, Number),
+// The weights after a join.
+#[derive(Clone, Copy, PartialEq, Eq, Debug)]
+pub struct Weights {
+    pub left: Number,
+    pub right: Number,
 }
 
-// A formula whose parts are entries of the same table, by their numbers. The parts stand before the whole.
-// A call has the called name, how many terms are written, and the first four of them: a fifth need not be
-// kept, since such a call is at fault at its name, before its terms.
-#[derive(Clone, Copy)]
+// A formula whose parts are entries of the same table, by their numbers: nothing is allocated, so no part is boxed.
+// The parts stand before the whole. A call has the called name, how many terms are written, and the first four of
+// them: a fifth need not be kept, since such a call is at fault at its name, before its terms.
+#[derive(Clone, Copy, PartialEq, Eq, Debug)]
 pub enum Node {
     Compared(Comparison, Term, Term),
     Called(Word, usize, [Term; 4]),
     Negated(u8),
     Picked(Word, u8),
-    Joined(Join, Weights, u8, u8),
+    Joined(Join, Option<Weights>, u8, u8),
 }
 
 // A field line, with the place of its first word.
-#[derive(Clone, Copy)]
+#[derive(Clone, Copy, PartialEq, Eq, Debug, Default)]
 pub struct FieldLine {
     pub first: usize,
     pub name: Word,
@@ -57,18 +59,17 @@ pub struct FieldLine {
 }
 
 // A rule line, with the place of its first word. Its formula is all the entries from `start` to `body`.
-#[derive(Clone, Copy)]
+#[derive(PartialEq, Eq, Debug, Default, Drop)]
 pub struct RuleLine {
     pub first: usize,
     pub name: Word,
-    pub params: [Word; 4],
-    pub param_count: usize,
+    pub params: ArrayVec<Word, 4>,
     pub start: u8,
     pub body: u8,
 }
 
 // The mark line, with the place of its first word. Its formula is all the entries from `start` to `body`.
-#[derive(Clone, Copy)]
+#[derive(Clone, Copy, PartialEq, Eq, Debug, Default)]
 pub struct MarkLine {
     pub first: usize,
     pub start: u8,
@@ -76,58 +77,32 @@ pub struct MarkLine {
 }
 
 // The lines of a sheet, up to the first that passes a count limit.
-#[derive(Clone, Copy)]
+#[derive(PartialEq, Eq, Debug, Default, Drop)]
 pub struct Table {
-    pub fields: [FieldLine; 8],
-    pub field_count: usize,
-    pub rules: [RuleLine; 16],
-    pub rule_count: usize,
+    pub fields: ArrayVec<FieldLine, 8>,
+    pub rules: ArrayVec<RuleLine, 16>,
     pub mark: MarkLine,
-    pub nodes: [Node; 256],
-    pub node_count: usize,
+    pub nodes: ArrayVec<Node, 256>,
     // the place of the first word of the first line that passes a limit: from it on nothing is kept
     pub over: Option<usize>,
+}
+
+// The entry that stands where none is used yet.
+impl Default for Node {
+    ghost is_default = { λ node. node ≡ Negated 0 };
+
+    fn default() -> Node {
+        Node::Negated(0)
+    }
 }
 
 impl Table {
     // A table without lines.
     pub fn blank() -> Table
         ensures lines { (text : List ℕ) → LinesAbove text result [] [] 0 }
-        ensures entries { result.node_count ≡ 0 }
+        ensures entries { result.nodes.items ≡ [] }
         ensures over { result.over ≡ None }
     {
-        let word = Word {
-            place: 0,
-            length: 0,
-        };
-        let number = Number { value: 0, place: 0 };
-        let field = FieldLine {
-            first: 0,
-            name: word,
-            low: number,
-            high: number,
-        };
-        let rule = RuleLine {
-            first: 0,
-            name: word,
-            params: [word; 4],
-            param_count: 0,
-            start: 0,
-            body: 0,
-        };
-        Table {
-            fields: [field; 8],
-            field_count: 0,
-            rules: [rule; 16],
-            rule_count: 0,
-            mark: MarkLine {
-                first: 0,
-                start: 0,
-                body: 0,
-            },
-            nodes: [Node::Compared(Comparison::Equal, Term::Constant(0), Term::Constant(0)); 256],
-            node_count: 0,
-            over: None,
-        }
+        Table::default()
     }
 }

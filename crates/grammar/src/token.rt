@@ -1,15 +1,16 @@
 // The token ahead, as the grammar sees it.
-ghost use Rattle.std.specs.Prelude.{◌≡◌, ◌<◌, ◌≤◌, length, Decides};
+ghost use Rattle.std.specs.Prelude.{◌≡◌, ◌≤◌, length};
 ghost use Rattle.refusal.specs.declared.Refusal.TheVariants.{TokenNotPermitted, TooDeep};
-ghost use Rattle.grammar.specs.Parsing.{class_of_word, class_of_sign, Peeked, fixed_class, fixed_shape, Expected, NameRead, NumberRead, SignRead};
+ghost use Rattle.grammar.specs.Parsing.{class_of_word, class_of_sign, name_in, number_in, sign_in, Sees, Taken, Takes, Passes, Asked, NameRead, NumberRead, SignRead};
 
+use crate::cursor::Cursor;
 use crate::table::{Number, Word};
 use formula::{Comparison, Join};
 use refusal::{Fault, Refusal};
-use signs::{Next, Sign, Token};
+use signs::{Sign, Token};
 
 // What a token is to the grammar: seven words are reserved, and every other word is a name.
-#[derive(Clone, Copy)]
+#[derive(Clone, Copy, PartialEq, Eq)]
 pub(crate) enum Class {
     End,
     Name(Word),
@@ -38,23 +39,40 @@ pub(crate) struct Ahead {
     pub(crate) end: usize,
 }
 
-// What was read, and the place after it.
-#[derive(Clone, Copy)]
-pub(crate) struct Read<T> {
-    pub(crate) value: T,
-    pub(crate) end: usize,
-}
-
-// A sign that the grammar asks for by itself.
-#[derive(Clone, Copy)]
-pub(crate) enum Fixed {
-    Opening,
-    Closing,
-    Semicolon,
-    Colon,
-}
-
 impl Ahead {
+    // The name that it is.
+    pub(crate) fn name(self) -> Option<Word>
+        ensures { result ≡ name_in self.class }
+    {
+        match self.class {
+            Class::Name(word) => Some(word),
+            _ => None,
+        }
+    }
+
+    // The number that it is.
+    pub(crate) fn number(self) -> Option<Number>
+        ensures { result ≡ number_in self.class self.place }
+    {
+        match self.class {
+            Class::Number(value) => Some(Number {
+                value,
+                place: self.place,
+            }),
+            _ => None,
+        }
+    }
+
+    // The sign of comparison that it is.
+    fn sign(self) -> Option<Comparison>
+        ensures { result ≡ sign_in self.class }
+    {
+        match self.class {
+            Class::Compare(sign) => Some(sign),
+            _ => None,
+        }
+    }
+
     // The fault that this token, or the end of the text, is not permitted here.
     pub(crate) fn not_permitted(self) -> Fault
         ensures { result ≡ record { refusal = TokenNotPermitted; place = self.place } }
@@ -76,138 +94,108 @@ impl Ahead {
     }
 }
 
-impl Fixed {
-    fn is(self, class: Class) -> bool
-        ensures { Decides result (class ≡ fixed_class self) }
-    {
-        match (self, class) {
-            (Fixed::Opening, Class::Opening) => true,
-            (Fixed::Closing, Class::Closing) => true,
-            (Fixed::Semicolon, Class::Semicolon) => true,
-            (Fixed::Colon, Class::Colon) => true,
-            _ => false,
-        }
-    }
-}
-
 fn word_class(word: &[u8], place: usize) -> Class
     ensures { result ≡ class_of_word word.now place }
 {
-    if word == b"field".as_slice() {
-        Class::Field
-    } else if word == b"rule".as_slice() {
-        Class::Rule
-    } else if word == b"mark".as_slice() {
-        Class::Mark
-    } else if word == b"and".as_slice() {
-        Class::Join(Join::And)
-    } else if word == b"or".as_slice() {
-        Class::Join(Join::Or)
-    } else if word == b"not".as_slice() {
-        Class::Not
-    } else if word == b"pick".as_slice() {
-        Class::Pick
-    } else {
-        Class::Name(Word {
+    match word {
+        b"field" => Class::Field,
+        b"rule" => Class::Rule,
+        b"mark" => Class::Mark,
+        b"and" => Class::Join(Join::And),
+        b"or" => Class::Join(Join::Or),
+        b"not" => Class::Not,
+        b"pick" => Class::Pick,
+        _ => Class::Name(Word {
             place,
             length: word.len(),
-        })
+        }),
     }
 }
 
-fn sign_class(sign: Sign) -> Class
-    ensures { result ≡ class_of_sign sign }
-{
-    match sign {
-        Sign::Open => Class::Opening,
-        Sign::Close => Class::Closing,
-        Sign::Comma => Class::Comma,
-        Sign::Semicolon => Class::Semicolon,
-        Sign::Colon => Class::Colon,
-        Sign::Plus => Class::Plus,
-        Sign::Minus => Class::Minus,
-        Sign::Compare(c) => Class::Compare(c),
-    }
-}
+impl From<Sign> for Class {
+    ghost from_gives = { λ sign class. class ≡ class_of_sign sign };
 
-// The token that comes next from `at` on.
-pub(crate) fn peek(text: &[u8], at: usize) -> Ahead
-    ensures { Peeked text.now at result }
-{
-    match signs::next(text, at) {
-        Next::Token(t) => {
-            let class = match t.token {
-                Token::Word(w) => word_class(w, t.place),
-                Token::Number(n) => Class::Number(n),
-                Token::Sign(s) => sign_class(s),
-            };
-            Ahead {
-                class,
-                place: t.place,
-                end: t.end,
-            }
+    fn from(sign: Sign) -> Class {
+        match sign {
+            Sign::Open => Class::Opening,
+            Sign::Close => Class::Closing,
+            Sign::Comma => Class::Comma,
+            Sign::Semicolon => Class::Semicolon,
+            Sign::Colon => Class::Colon,
+            Sign::Plus => Class::Plus,
+            Sign::Minus => Class::Minus,
+            Sign::Compare(comparison) => Class::Compare(comparison),
         }
-        _ => Ahead {
-            class: Class::End,
-            place: text.len(),
-            end: text.len(),
-        },
     }
 }
 
-// The place after the sign, or the fault that another token stands there.
-pub(crate) fn expect(text: &[u8], at: usize, sign: Fixed) -> Result<usize, Fault>
-    ensures { Expected text.now at (fixed_shape sign) result }
-{
-    let ahead = peek(text, at);
-    if sign.is(ahead.class) {
-        Ok(ahead.end)
-    } else {
-        Err(ahead.not_permitted())
-    }
-}
-
-// The name at a place.
-pub(crate) fn read_name(text: &[u8], at: usize) -> Result<Read<Word>, Fault>
-    ensures { NameRead text.now at result }
-{
-    let ahead = peek(text, at);
-    match ahead.class {
-        Class::Name(word) => Ok(Read {
-            value: word,
-            end: ahead.end,
-        }),
-        _ => Err(ahead.not_permitted()),
-    }
-}
-
-// The number at a place.
-pub(crate) fn read_number(text: &[u8], at: usize) -> Result<Read<Number>, Fault>
-    ensures { NumberRead text.now at result }
-{
-    let ahead = peek(text, at);
-    match ahead.class {
-        Class::Number(value) => Ok(Read {
-            value: Number {
-                value,
-                place: ahead.place,
+impl Cursor<'_> {
+    // The token that comes next.
+    pub(crate) fn peek(&self) -> Ahead
+        ensures sees { Sees self.now result }
+        ensures within { result.end ≤ length self.now.text.now }
+    {
+        // past a fault there is no token, as past the end of the text
+        match signs::next(self.text, self.at).unwrap_or(None) {
+            Some(next) => {
+                let class = match next.token {
+                    Token::Word(word) => word_class(word, next.place),
+                    Token::Number(number) => Class::Number(number),
+                    Token::Sign(sign) => Class::from(sign),
+                };
+                Ahead {
+                    class,
+                    place: next.place,
+                    end: next.end,
+                }
+            }
+            None => Ahead {
+                class: Class::End,
+                place: self.text.len(),
+                end: self.text.len(),
             },
-            end: ahead.end,
-        }),
-        _ => Err(ahead.not_permitted()),
+        }
     }
-}
 
-// The sign of comparison at a place.
-pub(crate) fn read_sign(text: &[u8], at: usize) -> Result<Read<Comparison>, Fault>
-    ensures { SignRead text.now at result }
-{
-    let ahead = peek(text, at);
-    match ahead.class {
-        Class::Compare(sign) => Ok(Read {
-            value: sign,
-            end: ahead.end,
-        }),
-        _ => Err(ahead.not_permitted()),
+    // What was found in the token ahead, which is passed; or the fault that the token is not permitted.
+    fn take<T: Drop>(&mut self, ahead: Ahead, found: Option<T>) -> Result<T, Fault>
+        requires { ahead.end ≤ length self.old.text.now }
+        ensures { Taken self.old self.new ahead found result }
+    {
+        let value = found.ok_or(ahead.not_permitted())?;
+        self.at = ahead.end;
+        Ok(value)
+    }
+
+    // Passes a sign that the grammar asks for by itself.
+    pub(crate) fn expect(&mut self, class: Class) -> Result<(), Fault>
+        ensures { Passes self.old self.new result (Asked class) }
+    {
+        let ahead = self.peek();
+        self.take(ahead, (ahead.class == class).then_some(()))
+    }
+
+    // The name that stands there.
+    pub(crate) fn name(&mut self) -> Result<Word, Fault>
+        ensures { Takes self.old self.new result NameRead }
+    {
+        let ahead = self.peek();
+        self.take(ahead, ahead.name())
+    }
+
+    // The number that stands there.
+    pub(crate) fn number(&mut self) -> Result<Number, Fault>
+        ensures { Takes self.old self.new result NumberRead }
+    {
+        let ahead = self.peek();
+        self.take(ahead, ahead.number())
+    }
+
+    // The sign of comparison that stands there.
+    pub(crate) fn sign(&mut self) -> Result<Comparison, Fault>
+        ensures { Takes self.old self.new result SignRead }
+    {
+        let ahead = self.peek();
+        self.take(ahead, ahead.sign())
     }
 }

@@ -1,3 +1,4 @@
-pub mod Marks
+pub mod InPlace
+pub mod Parted
 pub mod Putting
 pub mod Reading

@@ -1,19 +1,14 @@
--- Writes one after another, and the length of a number's text.
-use Rattle.std.proofs.Common.{◌≡◌, ℕ, ◌+◌, ◌/◌, ◌%◌, ◌^◌, ◌<◌, ◌≤◌, List, [], ◌++◌, length, take, drop, Ok, decimal, sym, refl, ap, ◌∙◌, append_assoc, append-nil, arith, length-append, take-append-drop, drop-drop}
-use Rattle.std.proofs.lemmas.Fmt.{decimal_digit, decimal_step}
-use Rattle.std.proofs.lemmas.List.{length_push}
+-- Writes one after another.
+use Rattle.std.proofs.Common.{◌≡◌, ℕ, ◌+◌, ◌-◌, ◌≤◌, List, map, [], ◌++◌, length, take, drop, Ok, sym, ap, ◌∙◌, append_assoc, append-nil, arith, length-append, take-append-drop, drop-drop, length-take, length-drop, ◌∷◌, ◌<◌, get_or, subst}
+use borrow.Rule.Slice.PartMut.{put_mid}
+use lib.ListN.{length-map}
+use Rattle.std.proofs.lemmas.Grind.{flat_map-append}
+use Rattle.std.proofs.lemmas.List.{take_all, take_at, take_more, take-take, drop_at}
+use Rattle.std.proofs.lemmas.List.Folds.{length-flat_map-take}
+use Rattle.std.proofs.lemmas.Slice.{between_is, take-put_mid, drop-put_mid}
+use Rattle.std.specs.List.{flat_map}
 use Rattle.lines.specs.Lines.{Made}
-use Rattle.lines.specs.Putting.{Put, line_of, one_line, text_of}
-use Rattle.lines.specs.declared.labelled.Labelled.{Labelled}
-
-pub length_decimal_digit : (n : ℕ) → n < 10 → length (decimal n) ≡ 1
-length_decimal_digit n h = ap length (decimal_digit n h)
-
-pub length_decimal_step : (n : ℕ) → 10 ≤ n → n < 2 ^ 64 → length (decimal n) ≡ length (decimal (n / 10)) + 1
-length_decimal_step n h f = ap length (decimal_step n h f) ∙ length_push (decimal (n / 10)) (48 + n % 10)
-
-pub put_none : (a : List ℕ) (at : ℕ) → Put a at [] a at
-put_none a at = record { size = omega arith; front = sym (append-nil _); past = refl }
+use Rattle.lines.specs.Putting.{Put}
 
 -- two writes, the second where the first ends
 pub put_put :
@@ -30,6 +25,58 @@ put_put {a} {b} {c} {xs} {ys} {at} {m} {r} p q = record {
       ∙ drop-drop (length ys) m a ∙ ap (λ n. drop n a) (sym q.size);
 }
 
+pub put_length :
+    {a b xs : List ℕ} {at m : ℕ}
+    → Put a at xs b m
+    → at + length xs ≤ length a
+    → length b ≡ length a
+put_length {a} {b} {xs} {at} {m} p fits =
+    let front = ap length p.front ∙ length-append (take at a) xs in
+    let past = ap length p.past in
+    omega (arith, p.size, length-take m b, length-take at a, length-drop m b, length-drop m a)
+
+-- bytes written over the part from `at` up to `to`
+pub put_part :
+    {out bytes : List ℕ} {at to : ℕ} (part : List ℕ)
+    → part ≡ bytes
+    → to ≡ at + length bytes
+    → to ≤ length out
+    → Put out at bytes (put_mid at (to - at) out part) to
+put_part {out} {bytes} {at} {to} part is size fits =
+    let long = ap length is in
+    record {
+      size = size;
+      front =
+          take-put_mid at (to - at) out part to (omega arith) (omega arith)
+          ∙ ap (λ l. take at out ++ l) is;
+      past = drop-put_mid at (to - at) out part to (omega arith) (omega arith) (omega arith);
+    }
+
+-- bytes that were put, and then changed where they stand
+pub put_changed :
+    (f : ℕ → ℕ) {before codes mid : List ℕ} {at to : ℕ} (part : List ℕ)
+    → Put before at codes mid to
+    → at + length codes ≤ length before
+    → part ≡ map f (take (to - at) (drop at mid))
+    → Put before at (map f codes) (put_mid at (to - at) mid part) to
+put_changed f {before} {codes} {mid} {at} {to} part put fits is =
+    let front : length (take at before) ≡ at = omega (arith, length-take at before) in
+    let same : take at mid ≡ take at before =
+    sym (take-take at to mid (omega (arith, put.size)))
+    ∙ ap (take at) put.front
+    ∙ take_at (take at before) codes at front in
+    let codes_there : take (to - at) (drop at mid) ≡ codes =
+    between_is mid at to ∙ ap (drop at) put.front ∙ drop_at (take at before) codes at front in
+    let changed =
+    put_part {out = mid} {at = at} {to = to} part (is ∙ ap (map f) codes_there)
+    (omega (arith, put.size, length-map codes f))
+    (omega (arith, put.size, put_length put fits)) in
+    record {
+      size = changed.size;
+      front = changed.front ∙ ap (λ l. l ++ map f codes) same;
+      past = changed.past ∙ put.past;
+    }
+
 -- a whole line, put from the buffer's first byte on
 pub made_by_put :
     {before bytes after : List ℕ} {n : ℕ}
@@ -42,10 +89,50 @@ made_by_put {before} {bytes} {after} {n} p fits = (
   sym (take-append-drop n after) ∙ (λ j. p.front j ++ p.past j),
 )
 
-pub length_line_of :
-    (p q r : Labelled)
-    → length (line_of p q r) ≡ length (text_of p) + length (text_of q) + length (text_of r) + 1
-length_line_of p q r = simp length-append (omega arith)
+flat_map_take_more :
+    {A : Type 0} (f : A → List ℕ) (xs : List A) (i : ℕ) (d : A)
+    → i < length xs
+    → flat_map f (take (i + 1) xs) ≡ flat_map f (take i xs) ++ f (get_or xs i d)
+flat_map_take_more f xs i d inside =
+    ap (flat_map f) (take_more xs i d inside) ∙ flat_map-append f (take i xs) (get_or xs i d ∷ [])
+    ∙ ap (λ l. flat_map f (take i xs) ++ l) (append-nil (f (get_or xs i d)))
 
-pub length_one_line : (p : Labelled) → length (one_line p) ≡ length (text_of p) + 1
-length_one_line p = simp length-append (omega arith)
+-- the texts of the first items of a list, put one after another: one more of them, and all of them
+pub put_more :
+    {A : Type 0} (f : A → List ℕ) {a b c : List ℕ} {at m r : ℕ} (xs : List A) (i : ℕ) (d : A)
+    → i < length xs
+    → Put a at (flat_map f (take i xs)) b m
+    → Put b m (f (get_or xs i d)) c r
+    → Put a at (flat_map f (take (i + 1) xs)) c r
+put_more f {a} {b} {c} {at} {m} {r} xs i d inside before more =
+    subst (λ text. Put a at text c r) (sym (flat_map_take_more f xs i d inside)) (put_put before more)
+
+pub put_all :
+    {A : Type 0} (f : A → List ℕ) {a b : List ℕ} {at m : ℕ} (xs : List A) (i : ℕ)
+    → length xs ≤ i
+    → Put a at (flat_map f (take i xs)) b m
+    → Put a at (flat_map f xs) b m
+put_all f {a} {b} {at} {m} xs i past whole =
+    subst (λ l. Put a at (flat_map f l) b m) (take_all i xs past) whole
+
+-- where the room that is left is too small for the next item's text, the room is too small for all
+pub no_room :
+    {A : Type 0} (f : A → List ℕ) (xs : List A) (i left room : ℕ) (d : A)
+    → i < length xs
+    → left + length (flat_map f (take i xs)) ≡ room
+    → (length (f (get_or xs i d)) ≤ left → ⊥)
+    → length (flat_map f xs) ≤ room
+    → ⊥
+no_room f xs i left room d inside so_far short fits =
+    short (omega (arith, length-flat_map-take f xs i d inside))
+
+-- and where the text of all fits the buffer, the next item's text does
+pub fits_more :
+    {A : Type 0} (f : A → List ℕ) {a b : List ℕ} {at m : ℕ} (xs : List A) (i : ℕ) (d : A)
+    → i < length xs
+    → Put a at (flat_map f (take i xs)) b m
+    → at + length (flat_map f xs) ≤ length a
+    → m + length (f (get_or xs i d)) ≤ length b
+fits_more f xs i d inside before fits =
+    let within = length-flat_map-take f xs i d inside in
+    omega (arith, before.size, put_length before (omega arith))

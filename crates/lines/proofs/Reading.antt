@@ -1,12 +1,16 @@
 -- A mark's line, read back.
-use Rattle.std.proofs.Common.{◌≡◌, ℕ, ◌+◌, ◌-◌, ◌*◌, ◌^◌, ◌<◌, true, false, List, [], ◌∷◌, ◌++◌, length, Some, decimal, sym, refl, ap, ◌∙◌, arith, rules}
+use Rattle.std.proofs.Common.{◌≡◌, ℕ, ◌+◌, ◌-◌, ◌*◌, ◌^◌, ◌<◌, true, false, List, [], ◌∷◌, ◌++◌, length, take, drop, Some, Ok, Err, Result, IfOk, decimal, sym, refl, ap, ◌∙◌, append_assoc, arith, rules}
 use Rattle.std.proofs.lemmas.Fmt.{decimal_nonempty, digits_decimal, digits_value-decimal}
+use Rattle.std.proofs.lemmas.List.{take_at}
 use Rattle.std.proofs.lemmas.Str.Parse.{IsNumeralModel, numerals_by_fold, tells_all_ascii_digits}
 use Rattle.std.proofs.lemmas.Bool.{and_parts}
 use Rattle.std.specs.Char.{is_ascii_digit}
 use Rattle.std.specs.List.{AllByRecursion}
 use Rattle.std.specs.Str.{all_ascii_digits}
-use Rattle.lines.specs.Lines.{further}
+use Rattle.std.specs.List.{flat_map}
+use Rattle.refusal.specs.declared.Refusal.{Refusal}
+use Rattle.lines.specs.Lines.{Made, line_feed, further, mark_text}
+use Rattle.lines.specs.Pieces.{parted, slashed}
 use Rattle.lines.specs.Reading.{numbers_on, numbers_of, ReadBack, LinesDiffer}
 
 -- the value of a run of digits, after a number already read
@@ -64,3 +68,23 @@ read_back (n ∷ ns) all = further_back n ns all.0 all.1
 
 pub lines_differ_lem : LinesDiffer
 lines_differ_lem m n small_m small_n same = sym (read_back m small_m) ∙ ap numbers_of same ∙ read_back n small_n
+
+-- a mark's line is its numbers, parted by `/`, and a line feed
+further_parted : (ns : List ℕ) → flat_map slashed ns ++ line_feed ≡ further ns
+further_parted [] = refl
+further_parted (n ∷ ns) =
+    append_assoc (slashed n) (flat_map slashed ns) line_feed ∙ ap (λ l. slashed n ++ l) (further_parted ns)
+
+pub mark_text_parted : (mark : List ℕ) → parted mark ++ line_feed ≡ mark_text mark
+mark_text_parted [] = refl
+mark_text_parted (n ∷ ns) =
+    append_assoc (decimal n) (flat_map slashed ns) line_feed ∙ ap (λ l. decimal n ++ l) (further_parted ns)
+
+pub made_read_back :
+    (mark before after : List ℕ) (r : Result ℕ Refusal)
+    → AllByRecursion (λ k. k < 2 ^ 64) mark
+    → Made (mark_text mark) before after r
+    → IfOk r (λ n. numbers_of (take n after) ≡ mark)
+made_read_back mark before after (Ok n) small made =
+    ap numbers_of (ap (take n) made.2 ∙ take_at (mark_text mark) (drop n before) n (sym made.0)) ∙ read_back mark small
+made_read_back mark before after (Err e) small made = tt

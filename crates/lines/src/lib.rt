@@ -1,4 +1,5 @@
-// The bytes of each line that a program prints, made in a buffer of the caller's.
+// The bytes of each line that a program prints, made in a buffer of the caller's. Each line has a function of its
+// own, with its text as the contract: one that took the words as well would be `write` again.
 #![tactic(auto)]
 
 ghost use Rattle.std.specs.Prelude.{◌≡◌, take, IfOk};
@@ -6,22 +7,23 @@ ghost use Rattle.lines.specs.Lines.{Made, allowed_text, closing_text, contents_t
 ghost use Rattle.lines.specs.Lines.{not_allowed_text, refused_text, signs_text, spent_text};
 ghost use Rattle.lines.specs.Reading.{LinesDiffer, ReadBack, numbers_of};
 
-use labelled::Labelled;
+use piece::Piece::{Number, Numbers, Text};
 use refusal::{Fault, Refusal};
 
-mod labelled;
-mod mark;
-mod put;
+mod cursor;
+mod numbers;
+mod piece;
+mod pieces;
+
+pub use piece::Piece;
+pub use pieces::write;
 
 // `N/N/N`, the numbers of a mark. The line reads back as the mark.
 pub fn mark_line(mark: &[u16], out: &mut [u8]) -> Result<usize, Refusal>
     ensures made { Made (mark_text mark.now) out.old out.new result }
     ensures read_back { IfOk result (λ n. numbers_of (take n out.new) ≡ mark.now) }
 {
-    if !mark::fits(mark, out.len()) {
-        return Err(Refusal::BufferTooShort);
-    }
-    Ok(mark::put_line(mark, out))
+    write(&[Numbers(mark), Text(b"\n")], out)
 }
 
 // Every mark can be read back from its line, so no two marks share one.
@@ -34,24 +36,32 @@ pub fn lines_differ()
 pub fn closing_line(issued: u64, dead: u64, spent: u64, out: &mut [u8]) -> Result<usize, Refusal>
     ensures { Made (closing_text issued dead spent) out.old out.new result }
 {
-    labelled::line_of_three(
-        Labelled::new(b"issued ", issued),
-        Labelled::new(b" dead ", dead),
-        Labelled::new(b" spent ", spent),
-        out,
-    )
+    let line = [
+        Text(b"issued "),
+        Number(issued),
+        Text(b" dead "),
+        Number(dead),
+        Text(b" spent "),
+        Number(spent),
+        Text(b"\n"),
+    ];
+    write(&line, out)
 }
 
 // `words N numbers N signs N`
 pub fn signs_line(words: u64, numbers: u64, signs: u64, out: &mut [u8]) -> Result<usize, Refusal>
     ensures { Made (signs_text words numbers signs) out.old out.new result }
 {
-    labelled::line_of_three(
-        Labelled::new(b"words ", words),
-        Labelled::new(b" numbers ", numbers),
-        Labelled::new(b" signs ", signs),
-        out,
-    )
+    let line = [
+        Text(b"words "),
+        Number(words),
+        Text(b" numbers "),
+        Number(numbers),
+        Text(b" signs "),
+        Number(signs),
+        Text(b"\n"),
+    ];
+    write(&line, out)
 }
 
 // `fields N rules N formulas N`
@@ -63,50 +73,60 @@ pub fn contents_line(
 ) -> Result<usize, Refusal>
     ensures { Made (contents_text fields rules formulas) out.old out.new result }
 {
-    labelled::line_of_three(
-        Labelled::new(b"fields ", fields),
-        Labelled::new(b" rules ", rules),
-        Labelled::new(b" formulas ", formulas),
-        out,
-    )
+    let line = [
+        Text(b"fields "),
+        Number(fields),
+        Text(b" rules "),
+        Number(rules),
+        Text(b" formulas "),
+        Number(formulas),
+        Text(b"\n"),
+    ];
+    write(&line, out)
 }
 
 // `allowed N`, a mark that is allowed and the calls that its reading made.
 pub fn allowed_line(calls: u64, out: &mut [u8]) -> Result<usize, Refusal>
     ensures { Made (allowed_text calls) out.old out.new result }
 {
-    labelled::line_of_one(Labelled::new(b"allowed ", calls), out)
+    write(&[Text(b"allowed "), Number(calls), Text(b"\n")], out)
 }
 
 // `not allowed N`
 pub fn not_allowed_line(calls: u64, out: &mut [u8]) -> Result<usize, Refusal>
     ensures { Made (not_allowed_text calls) out.old out.new result }
 {
-    labelled::line_of_one(Labelled::new(b"not allowed ", calls), out)
+    write(&[Text(b"not allowed "), Number(calls), Text(b"\n")], out)
 }
 
 // `spent N`
 pub fn spent_line(calls: u64, out: &mut [u8]) -> Result<usize, Refusal>
     ensures { Made (spent_text calls) out.old out.new result }
 {
-    labelled::line_of_one(Labelled::new(b"spent ", calls), out)
+    write(&[Text(b"spent "), Number(calls), Text(b"\n")], out)
 }
 
 // `refused N`, the number of a refusal.
 pub fn refused_line(refusal: Refusal, out: &mut [u8]) -> Result<usize, Refusal>
     ensures { Made (refused_text refusal) out.old out.new result }
 {
-    labelled::line_of_one(Labelled::new(b"refused ", refusal.number() as u64), out)
+    let number = u64::from(refusal.number());
+    write(&[Text(b"refused "), Number(number), Text(b"\n")], out)
 }
 
 // `fault LAYER NUMBER PLACE`
 pub fn fault_line(fault: Fault, out: &mut [u8]) -> Result<usize, Refusal>
     ensures { Made (fault_text fault) out.old out.new result }
 {
-    labelled::line_of_three(
-        Labelled::new(b"fault ", fault.refusal.layer() as u64),
-        Labelled::new(b" ", fault.refusal.number() as u64),
-        Labelled::new(b" ", fault.place as u64),
-        out,
-    )
+    // std has no `From<usize>` for `u64`, so the place is cast
+    let line = [
+        Text(b"fault "),
+        Number(u64::from(fault.refusal.layer())),
+        Text(b" "),
+        Number(u64::from(fault.refusal.number())),
+        Text(b" "),
+        Number(fault.place as u64),
+        Text(b"\n"),
+    ];
+    write(&line, out)
 }

@@ -2,6 +2,7 @@
 #![tactic(auto)]
 
 use run::goal::{Frame, Goal};
+use run::lists::Lists;
 use sheet::table::Sheet;
 use std::alloc::Global;
 use std::io;
@@ -27,11 +28,13 @@ const FIELDS: usize = 8;
 const LINE: usize = 128;
 
 fn main(rt: HostRuntime) -> io::Result<()> {
+    // Each program reads its text by these lines: a function of a library for them would allocate.
     let mut text = vec![in rt.alloc(); 0u8; ENOUGH]?;
     let size = streams::fill(&mut rt.stdin(), &mut text)?;
+    text.truncate(size);
     let mut out = BufWriter::new(rt.alloc(), rt.stdout())?;
     let mut sheet = Sheet::blank();
-    match names::read(&text[0..size], &mut sheet) {
+    match names::read(&text, &mut sheet) {
         Ok(_) => list(rt.alloc(), &sheet, &mut out)?,
         Err(fault) => {
             let mut line = [0u8; 64];
@@ -50,19 +53,18 @@ fn list<W: Write>(heap: Global, sheet: &Sheet, out: &mut W) -> io::Result<()> {
     let mut frames = vec![in heap; Frame::NONE; FRAMES]?;
     let mut mark = vec![in heap; 0u16; FIELDS]?;
     let mut line = vec![in heap; 0u8; LINE]?;
+    let mut lists = Lists {
+        picks: &mut picks,
+        widths: &mut widths,
+        goals: &mut goals,
+        frames: &mut frames,
+        mark: &mut mark,
+    };
     let mut walk = walk::start(FUEL);
+    // Counted, since what a walk answers does not tell the check that it ends.
     for _ in 0..u64::MAX {
-        let answer = walk.next(
-            sheet,
-            &mut store,
-            &mut picks,
-            &mut widths,
-            &mut goals,
-            &mut frames,
-            &mut mark,
-        );
-        match answer {
-            Ok(Answer::Mark) => put_mark(sheet.field_count, &mark, &mut line, out)?,
+        match walk.next(sheet, &mut store, &mut lists) {
+            Ok(Answer::Mark) => put_mark(sheet.field_count, lists.mark, &mut line, out)?,
             Ok(Answer::Finished) => break,
             Ok(Answer::DeadEnd | Answer::Spent) => {}
             Err(_) => return Err(io::Error::other("the walk is refused")),
@@ -78,8 +80,8 @@ fn list<W: Write>(heap: Global, sheet: &Sheet, out: &mut W) -> io::Result<()> {
 
 // Writes the line of the mark at the front of the mark list.
 fn put_mark<W: Write>(fields: usize, mark: &[u16], line: &mut [u8], out: &mut W) -> io::Result<()> {
-    if fields > mark.len() {
-        return Err(io::Error::other("the mark list is too short"));
-    }
-    put(lines::mark_line(&mark[0..fields], line), line, out)
+    let mark = mark
+        .get(..fields)
+        .ok_or_else(|| io::Error::other("the mark list is too short"))?;
+    put(lines::mark_line(mark, line), line, out)
 }

@@ -1,13 +1,13 @@
 -- The parts of a sheet, and what its terms and words say. The plain reading and the runs share these.
 -- In a term `+` stops at 1,023 and `-` at 0, so a term is always worth a number that a mark may hold.
-use Rattle.std.specs.Prelude.{ℕ, ◌+◌, ◌-◌, min, Bool, true, false, List, length, slice_index, slice_index_or}
-use Rattle.formula.specs.declared.Comparison.{Comparison}
+use Rattle.std.specs.Prelude.{ℕ, List, length, slice_index, slice_index_or}
 use Rattle.formula.specs.declared.Comparison.TheVariants.{Equal}
-use Rattle.formula.specs.declared.Join.{Join}
-use Rattle.formula.specs.declared.Join.TheVariants.{And, Or}
-use Rattle.formula.specs.Comparing.{opposite}
-use Rattle.formula.specs.Trees.{Name, field, param, Shift, up, down, Term, num, bare, moved, Formula}
+use Rattle.formula.specs.Trees.{Name, field, param, Term, num, bare, moved, Formula}
 use Rattle.formula.specs.Trees.{compare, Range, Rule, rule, Sheet, sheet}
+-- what signs, joins and shifts say by themselves
+pub use Rattle.formula.specs.Comparing.{aimed}
+pub use Rattle.formula.specs.Joining.{wants}
+pub use Rattle.formula.specs.Trees.{shifted}
 
 -- the ranges of the fields, in field order
 abbrev pub ranges_of : Sheet → List Range
@@ -33,11 +33,6 @@ formula_of (rule params F) = F
 abbrev pub body : List Rule → ℕ → Formula
 body rules r = formula_of (slice_index_or rules r (rule 0 (compare (num 0) Equal (num 1))))
 
--- a number with `+` or `-` and another: `+` stops at 1,023 and `-` at 0
-abbrev pub shifted : Shift → ℕ → ℕ
-shifted (up k) v = min (v + k) 1023
-shifted (down k) v = v - k
-
 -- the number of a name: a field's in the mark m, a parameter's in the numbers e that the call was given
 abbrev pub named : (m e : List ℕ) → Name → ℕ
 named m e (field f) = slice_index m f
@@ -48,13 +43,3 @@ abbrev pub value : (m e : List ℕ) → Term → ℕ
 value m e (num n) = n
 value m e (bare x) = named m e x
 value m e (moved x d) = shifted d (named m e x)
-
--- the left side's result at which a join goes on to its right side: `and` at true, `or` at false
-abbrev pub wants : Join → Bool
-wants And = true
-wants Or = false
-
--- a comparison under a target: a false target turns it into its opposite
-abbrev pub aimed : Bool → Comparison → Comparison
-aimed true c = c
-aimed false c = opposite c

@@ -1,29 +1,28 @@
 -- The first fault of a sheet is the first fault of the first line at fault, or 11 at the first line that is not kept.
-use Rattle.std.proofs.Common.{◌≡◌, ℕ, ◌+◌, ◌<◌, ◌≤◌, ◌⊎◌, List, [], ◌∷◌, ◌++◌, map, length, take, Some, None, Option, sym, refl, ap, ◌∙◌, subst, inl, inr, ⊎_elim, append-nil, arith}
+use Rattle.std.proofs.Common.{◌≡◌, ℕ, ◌+◌, ◌<◌, ◌≤◌, ◌⊎◌, List, [], ◌∷◌, ◌++◌, map, length, take, Option, Some, None, Ok, Err, Result, sym, refl, ap, ◌∙◌, subst, inl, inr, ⊎_elim, append-nil, arith}
 use lib.Seq.{take-append-le}
 use Rattle.std.proofs.str.Laws.{order}
 use Rattle.std.proofs.lemmas.List.{take_at}
 use Rattle.refusal.specs.declared.Fault.{Fault}
 use Rattle.refusal.specs.declared.Refusal.TheVariants.{TooMany}
+use Rattle.grammar.specs.declared.table.FieldLine.{FieldLine}
+use Rattle.grammar.specs.declared.table.RuleLine.{RuleLine}
+use Rattle.grammar.specs.declared.table.Node.{Node as NodeEntry}
 use Rattle.grammar.specs.declared.table.Table.{Table}
 use Rattle.grammar.specs.Syntax.{Word, Number, num, Formula, Field, field_line, Rule, rule_line, Mark, mark_line, Sheet, sheet}
 use Rattle.grammar.specs.Tables.{node_at, fields_of, rules_of, Entries, Rules, LinesAbove, Holds, whole, over_field, over_rule, over_mark, Over, WellRead, Rising, fields_places, rules_places, sheet_places, formula_places, place_of}
 use Rattle.sheet.specs.declared.node.Node.{Node}
 use Rattle.names.specs.Lists.{Stands, here, there, In, this, that}
 use Rattle.names.specs.Faults.{sizes, FieldFault, field_taken, wrong_range, many_fields, RuleFault, rule_taken, param_taken, rule_formula, many_rules, rule_passes, MarkFault, mark_formula, mark_passes, Faulty, in_field, in_rule, in_mark, First, NoLater}
-use Rattle.names.specs.Looking.{Best, FieldsFault, RulesFault, FieldsSettled, RulesSettled, MarkSettled, RulesNumbered, AllNumbered, LinesSettled, SameOutside, Numbered, rule_params}
+use Rattle.names.specs.Looking.{Best, Settles, EntriesNumbered, no_rule_line, FieldsFault, RulesFault, FieldsSettled, RulesSettled, MarkSettled, RulesNumbered, AllNumbered, LinesSettled, SameOutside, Numbered, rule_params}
 use Rattle.names.proofs.Search.{stands_in}
-use Rattle.names.proofs.Places.{in_left, in_right, in_map, stands_length, stands_after}
+use Rattle.names.proofs.Places.{in_left, in_right, in_map, stands_length, stands_after, stands_once}
 use Rattle.names.proofs.Ordered.{before_in}
-use Rattle.names.proofs.Runs.{best_like}
-use Rattle.names.proofs.Lookups.{stands_at, no_rule_line}
+use Rattle.names.proofs.Runs.{settles_like}
+use Rattle.names.proofs.Lookups.{stands_at}
 use Rattle.names.proofs.Parts.{entries_size}
-use Rattle.names.proofs.Loops.{rules_heads, rules_end, rules_long, length_take_all, line_of, sizes_upto}
+use Rattle.names.proofs.Loops.{rules_heads, rules_end, rules_long, line_of, sizes_upto}
 use Rattle.names.proofs.InOrder.{flat, field_own, rule_own, mark_own, fields_flat, rules_flat, flat_own, flat_rest, flat_order, flat_end, in_flat, in_end, field_fault_in, rule_fault_in, mark_fault_in, formula_fault_in}
-
-stands_same : {A : Type 0} {xs : List A} {i : ℕ} {a b : A} → Stands A xs i a → Stands A xs i b → a ≡ b
-stands_same here here = refl
-stands_same (there s) (there u) = stands_same s u
 
 stands_left : {A : Type 0} {xs : List A} {i : ℕ} {x : A} (ys : List A) → Stands A xs i x → Stands A (xs ++ ys) i x
 stands_left ys here = here
@@ -139,11 +138,12 @@ module _ (fs gs : List Field) (rs qs : List Rule) (m : Mark)
             (λ z. ⊎_elim (h.least k q) (λ w. inl (rule_rest n p k q h.fault w)) z) (from k q y);
       }
 
-  pub best_rest :
-      (r : Option Fault) → ((k q : ℕ) → FieldsFault fs k q → ⊥) → ((k q : ℕ) → RulesFault fs rs k q → ⊥)
-      → Best Rest r → Best (Faulty (sheet all every m)) r
-  best_rest r nf nr b =
-      best_like r to_rest (λ k q y. ⊎_elim (λ z. absurd (nf k q z)) (λ z. ⊎_elim (λ w. absurd (nr k q w)) (λ w. w) z) (from k q y)) b
+  pub rest_settled :
+      {P Q : Type 0} (r : Result (Unit {0}) Fault)
+      → ((k q : ℕ) → FieldsFault fs k q → ⊥) → ((k q : ℕ) → RulesFault fs rs k q → ⊥) → (P → Q)
+      → Settles Rest (λ _. P) r → Settles (Faulty (sheet all every m)) (λ _. Q) r
+  rest_settled r nf nr also b =
+      settles_like r to_rest (λ k q y. ⊎_elim (λ z. absurd (nf k q z)) (λ z. ⊎_elim (λ w. absurd (nr k q w)) (λ w. w) z) (from k q y)) also b
 
   -- where all lines are kept, the rest is the mark line
   pub rest_is_mark : all ≡ fs → every ≡ rs → (n q : ℕ) → Rest n q → MarkFault all every m n q
@@ -170,7 +170,7 @@ pub record WholeMark (text : List ℕ) (t : Table) (e : ℕ) (rs : List Rule) (m
   pub first : ℕ
   pub body : Formula
   pub is : m ≡ mark_line first body
-  pub entries : Entries text t.nodes t.mark.start t.mark.body body
+  pub entries : Entries text t.nodes.items t.mark.start t.mark.body body
   pub within : Over (sizes rs) [] body → ⊥
   pub starts : t.mark.start ≡ e
 
@@ -234,7 +234,7 @@ module _ (fs gs : List Field) (m : Mark) (all : List Field) (every : List Rule) 
             (λ lt. inl (flat_order field_own (flat rule_own every (mark_own m)) all up ninth y.2 lt first_in (field_fault_in y.4)))
             (λ ge. let k : y.0 ≡ 8 = let h = y.3 in omega arith in
             let st : Stands Field all 8 y.1 = subst (λ z. Stands Field all z y.1) k y.2 in
-            at_ninth n q y.1 (stands_same st ninth) (subst (λ z. FieldFault (take z all) y.1 n q) k y.4)
+            at_ninth n q y.1 (stands_once st ninth) (subst (λ z. FieldFault (take z all) y.1 n q) k y.4)
             (flat_own field_own (flat rule_own every (mark_own m)) all up st))
             (order 8 y.0))
             (λ z. inl (flat_end field_own (flat rule_own every (mark_own m)) all up ninth first_in
@@ -284,7 +284,7 @@ module _ (fs : List Field) (rs qs : List Rule) (m : Mark) (every : List Rule) (e
             (λ lt. inl (flat_order rule_own (mark_own m) every up_every next_rule y.2 lt this (rule_fault_in y.4)))
             (λ ge. let k : y.0 ≡ length rs = let h = y.3 in omega arith in
             let st : Stands Rule every (length rs) y.1 = subst (λ z. Stands Rule every z y.1) k y.2 in
-            at_next n q y.1 (stands_same st next_rule) (subst (λ z. RuleFault fs (take z every) y.1 n q) k y.4)
+            at_next n q y.1 (stands_once st next_rule) (subst (λ z. RuleFault fs (take z every) y.1 n q) k y.4)
             (flat_own rule_own (mark_own m) every up_every st))
             (order (length rs) y.0))
             (λ y. inl (flat_end rule_own (mark_own m) every up_every next_rule this (mark_fault_in y))) z) x;
@@ -318,7 +318,7 @@ module _ (fs : List Field) (rs : List Rule) (p : ℕ) (f : Formula)
 -- what a table keeps of the sheet that it holds
 module _ (text : List ℕ) (t : Table) where
   size_above : {fs : List Field} {rs : List Rule} {e : ℕ} → LinesAbove text t fs rs e → e ≡ sizes rs
-  size_above above = let h = rules_end text t.nodes above.rules_held in omega arith
+  size_above above = let h = rules_end text t.nodes.items above.rules_held in omega arith
 
   pub kept : (s : Sheet) → Holds text t s → WellRead s → Kept text t s
   kept _ (whole {fs = fs} {rs = rs} {p = p} {e = e} {f = f} none above first starts d fits) well =
@@ -346,7 +346,7 @@ module _ (text : List ℕ) (t : Table) where
             first = p;
             body = f;
             is = refl;
-            entries = subst (λ z. Entries text t.nodes z t.mark.body f) (sym starts) d;
+            entries = subst (λ z. Entries text t.nodes.items z t.mark.body f) (sym starts) d;
             within = subst (λ z. Over z [] f → ⊥) (size_above above) fits;
             starts = starts;
           },
@@ -423,8 +423,14 @@ module _ (text : List ℕ) (t : Table) where
 -- What is settled of all lines
 
 module _ (text : List ℕ) (t : Table) where
-  never : {x : Fault} → ◌≡◌ {A = Option Fault} (Some x) None → ⊥
-  never e = let z : ◌≡◌ {A = ℕ} 0 1 = cc in omega arith
+  abbrev Ls : List FieldLine
+  Ls = t.fields.items
+
+  abbrev Ks : List RuleLine
+  Ks = rules_of t
+
+  abbrev Raw : List NodeEntry
+  Raw = t.nodes.items
 
   module _ (s : Sheet) (k : Kept text t s) where
     abbrev Zs : List ℕ
@@ -447,94 +453,93 @@ module _ (text : List ℕ) (t : Table) where
         ∙ flat_append rule_own k.rs k.qs (mark_own k.m) ∙ sym (rules_flat k.rs Ys))
         (flat_rest field_own (flat rule_own k.every (mark_own k.m)) k.all k.up)
 
-    fields_best : (r : Option Fault) → FieldsSettled text t r → Best (FieldsFault k.fs) r
-    fields_best r h = h k.fs Zs k.above.fields_held k.above.field_count k.above.few_fields up_fields
+    fields_best : (r : Result (Unit {0}) Fault) → FieldsSettled text Ls r → Best (FieldsFault k.fs) r
+    fields_best r h =
+        subst (λ z. Best (FieldsFault z) r) k.above.fields_held
+        (h Zs (subst (λ z. Rising (fields_places z Zs)) (sym k.above.fields_held) up_fields))
 
-    rules_best :
-        (r : Option Fault) (nodes : List Node) → RulesSettled text t nodes r
-        → Best (RulesFault k.fs k.rs) r × (r ≡ None → RulesNumbered text t k.rs (length k.rs) nodes)
-    rules_best r nodes h =
-        let g = h k.rs k.e Ys k.above.rules_held k.above.rule_count k.above.few_rules up_rules' in
-        (subst (λ z. Best (RulesFault z k.rs) r) k.above.fields_held g.0, g.1)
+    rules_settled :
+        (r : Result (Unit {0}) Fault) (nodes : List Node) → RulesSettled text Ls Ks Raw nodes r
+        → Settles (RulesFault k.fs k.rs) (λ _. RulesNumbered text Ls Ks Raw k.rs (length k.rs) nodes) r
+    rules_settled r nodes h =
+        subst (λ z. Settles (RulesFault z k.rs) (λ _. RulesNumbered text Ls Ks Raw k.rs (length k.rs) nodes) r) k.above.fields_held
+        (h k.rs k.e Ys k.above.rules_held up_rules')
 
-    at_sheet : (r : Option Fault) → Best (Faulty (sheet k.all k.every k.m)) r → Best (Faulty s) r
-    at_sheet r b = subst (λ z. Best (Faulty z) r) k.is b
+    at_sheet :
+        (r : Result (Unit {0}) Fault) (nodes : List Node)
+        → Settles (Faulty (sheet k.all k.every k.m)) (λ _. (t.over ≡ None) × AllNumbered text t nodes (sheet k.all k.every k.m)) r
+        → Settles (Faulty s) (λ _. (t.over ≡ None) × AllNumbered text t nodes s) r
+    at_sheet r nodes b = subst (λ z. Settles (Faulty z) (λ _. (t.over ≡ None) × AllNumbered text t nodes z) r) k.is b
 
-  pub fields_refused : (x : Fault) (nodes : List Node) → FieldsSettled text t (Some x) → LinesSettled text t nodes (Some x)
+  pub fields_refused : (x : Fault) (nodes : List Node) → FieldsSettled text Ls (Err x) → LinesSettled text t nodes (Err x)
   fields_refused x nodes h s holds well =
-      let k = kept text t s holds well in (
-        at_sheet s k (Some x)
-            (first_field k.fs k.gs k.rs k.qs k.m k.all k.every k.ea k.ee k.context k.up (fields_best s k (Some x) h)),
-        λ e. absurd (never e),
-      )
+      let k = kept text t s holds well in
+      at_sheet s k (Err x) nodes
+      (first_field k.fs k.gs k.rs k.qs k.m k.all k.every k.ea k.ee k.context k.up (fields_best s k (Err x) h))
 
   pub rules_refused :
-      (x : Fault) (nodes : List Node) → FieldsSettled text t None → RulesSettled text t nodes (Some x) → LinesSettled text t nodes (Some x)
-  rules_refused x nodes g h s holds well =
-      let k = kept text t s holds well in (
-        at_sheet s k (Some x)
-            (first_rule k.fs k.gs k.rs k.qs k.m k.all k.every k.ea k.ee k.context k.up
-            (fields_best s k None g) (rules_best s k (Some x) nodes h).0),
-        λ e. absurd (never e),
-      )
+      (x : Fault) (u : Unit {0}) (nodes : List Node) → FieldsSettled text Ls (Ok u) → RulesSettled text Ls Ks Raw nodes (Err x)
+      → LinesSettled text t nodes (Err x)
+  rules_refused x u nodes g h s holds well =
+      let k = kept text t s holds well in
+      at_sheet s k (Err x) nodes
+      (first_rule k.fs k.gs k.rs k.qs k.m k.all k.every k.ea k.ee k.context k.up
+      (fields_best s k (Ok u) g) (rules_settled s k (Err x) nodes h))
 
   pub over_refused :
-      (p : ℕ) (nodes nodes' : List Node) → t.over ≡ Some p → FieldsSettled text t None → RulesSettled text t nodes None
-      → LinesSettled text t nodes' (Some (record { refusal = TooMany; place = p }))
-  over_refused p nodes nodes' o g h s holds well =
-      let k = kept text t s holds well in (
-        at_sheet s k (Some (record { refusal = TooMany; place = p }))
-            (best_rest k.fs k.gs k.rs k.qs k.m k.all k.every k.ea k.ee k.context k.up
-            (Some (record { refusal = TooMany; place = p })) (fields_best s k None g) (rules_best s k None nodes h).0 (k.cut p o)),
-        λ e. absurd (never e),
-      )
+      (p : ℕ) (u v : Unit {0}) (nodes nodes' : List Node) → t.over ≡ Some p
+      → FieldsSettled text Ls (Ok u) → RulesSettled text Ls Ks Raw nodes (Ok v)
+      → LinesSettled text t nodes' (Err (record { refusal = TooMany; place = p }))
+  over_refused p u v nodes nodes' o g h s holds well =
+      let k = kept text t s holds well in
+      let r : Result (Unit {0}) Fault = Err (record { refusal = TooMany; place = p }) in
+      at_sheet s k r nodes'
+      (rest_settled k.fs k.gs k.rs k.qs k.m k.all k.every k.ea k.ee k.context k.up {P = (t.over ≡ None) × AllNumbered text t nodes' (sheet k.all k.every k.m)}
+      r (fields_best s k (Ok u) g) (rules_settled s k (Ok v) nodes h).0 (λ x. x) (k.cut p o))
 
   -- the entries of the mark line stand after those of the rule lines
   rules_stay :
       {e : ℕ} (rs : List Rule) (nodes nodes' : List Node) (end : ℕ)
-      → Rules text t.nodes 0 (rules_of t) rs e → t.rule_count ≡ length rs → t.mark.start ≡ e
+      → Rules text Raw 0 Ks rs e → t.mark.start ≡ e
       → SameOutside nodes nodes' t.mark.start end
-      → RulesNumbered text t rs (length rs) nodes → RulesNumbered text t rs (length rs) nodes'
-  rules_stay rs nodes nodes' end held count starts same old i x lt st k from to =
-      let long = rules_long text t.nodes held in
-      let short = length_take_all t.rule_count t.rules in
-      let at = line_of text t.nodes held (stands_at t.rules t.rule_count i no_rule_line (omega arith) (omega arith)) in
-      let a = entries_size text t.nodes at.entries in
+      → RulesNumbered text Ls Ks Raw rs (length rs) nodes → RulesNumbered text Ls Ks Raw rs (length rs) nodes'
+  rules_stay rs nodes nodes' end held starts same old i x lt st k from to =
+      let long = rules_long text Raw held in
+      let at = line_of text Raw held (stands_at Ks i no_rule_line (omega arith)) in
+      let a = entries_size text Raw at.entries in
       let b = sizes_upto i rs at.stands in
-      let c = rules_end text t.nodes held in
-      subst (Numbered text (fields_of text t) (take i rs ++ (x ∷ [])) (rule_params x) (node_at t.nodes k))
+      let c = rules_end text Raw held in
+      subst (Numbered text (fields_of text t) (take i rs ++ (x ∷ [])) (rule_params x) (node_at Raw k))
       (sym (same.0 k (omega (arith, at.starts)))) (old i x lt st k from to)
 
   pub mark_answered :
-      (r : Option Fault) (nodes nodes' : List Node) → t.over ≡ None → FieldsSettled text t None → RulesSettled text t nodes None
-      → MarkSettled text t nodes' r → SameOutside nodes nodes' t.mark.start (t.mark.body + 1)
+      (r : Result (Unit {0}) Fault) (x y : Unit {0}) (nodes nodes' : List Node) → t.over ≡ None
+      → FieldsSettled text Ls (Ok x) → RulesSettled text Ls Ks Raw nodes (Ok y)
+      → MarkSettled text Ls Ks Raw t.mark nodes' r → SameOutside nodes nodes' t.mark.start (t.mark.body + 1)
       → LinesSettled text t nodes' r
-  mark_answered r nodes nodes' o g h settled same s holds well =
+  mark_answered r x y nodes nodes' o g h settled same s holds well =
       let k = kept text t s holds well in
       let u = k.uncut o in
       let w = u.2 in
-      let rules = rules_best s k None nodes h in
+      let rules = rules_settled s k (Ok y) nodes h in
       let up_m : Rising (formula_places w.body) =
       (subst (λ z. Rising (mark_own z)) w.is
       (flat_rest rule_own (mark_own k.m) k.every (flat_rest field_own (flat rule_own k.every (mark_own k.m)) k.all k.up))).1 in
-      let mark = settled k.rs w.first w.body (rules_heads text t.nodes k.above.rules_held) w.entries w.within up_m in
-      let best : Best (MarkFault k.all k.every k.m) r =
-      subst (λ z. Best (MarkFault k.all k.every z) r) (sym w.is)
-      (subst (λ z. Best (MarkFault k.all z (mark_line w.first w.body)) r) (sym u.1)
-      (subst (λ z. Best (MarkFault z k.rs (mark_line w.first w.body)) r) (k.above.fields_held ∙ sym u.0) mark.0)) in (
-        at_sheet s k r
-            (best_rest k.fs k.gs k.rs k.qs k.m k.all k.every k.ea k.ee k.context k.up r
-            (fields_best s k None g) rules.0
-            (best_like r
-            (mark_is_rest k.fs k.gs k.rs k.qs k.m k.all k.every k.ea k.ee k.context k.up)
-            (rest_is_mark k.fs k.gs k.rs k.qs k.m k.all k.every k.ea k.ee k.context k.up u.0 u.1) best)),
-        λ e. (
-          o,
-          subst (AllNumbered text t nodes') k.is
-              (subst (λ z. AllNumbered text t nodes' (sheet k.all k.every z)) (sym w.is)
-              (subst (λ z. AllNumbered text t nodes' (sheet k.all z (mark_line w.first w.body))) (sym u.1) (
-                rules_stay k.rs nodes nodes' (t.mark.body + 1) k.above.rules_held k.above.rule_count w.starts same (rules.1 refl),
-                mark.1 e,
-              ))),
-        ),
-      )
+      let mark = settled k.rs w.first w.body (rules_heads text Raw k.above.rules_held) w.entries w.within up_m in
+      let Mark : Type 0 = EntriesNumbered text Ls Raw k.rs [] nodes' t.mark.start (t.mark.body + 1) in
+      let best : Settles (MarkFault k.all k.every k.m) (λ _. Mark) r =
+      subst (λ z. Settles (MarkFault k.all k.every z) (λ _. Mark) r) (sym w.is)
+      (subst (λ z. Settles (MarkFault k.all z (mark_line w.first w.body)) (λ _. Mark) r) (sym u.1)
+      (subst (λ z. Settles (MarkFault z k.rs (mark_line w.first w.body)) (λ _. Mark) r) (k.above.fields_held ∙ sym u.0) mark)) in
+      let numbered : Mark → AllNumbered text t nodes' (sheet k.all k.every k.m) = λ m.
+      subst (λ z. AllNumbered text t nodes' (sheet k.all k.every z)) (sym w.is)
+      (subst (λ z. AllNumbered text t nodes' (sheet k.all z (mark_line w.first w.body))) (sym u.1) (
+        rules_stay k.rs nodes nodes' (t.mark.body + 1) k.above.rules_held w.starts same rules.1,
+        m,
+      )) in
+      at_sheet s k r nodes'
+      (rest_settled k.fs k.gs k.rs k.qs k.m k.all k.every k.ea k.ee k.context k.up r
+      (fields_best s k (Ok x) g) rules.0 (λ m. (o, numbered m))
+      (settles_like r
+      (mark_is_rest k.fs k.gs k.rs k.qs k.m k.all k.every k.ea k.ee k.context k.up)
+      (rest_is_mark k.fs k.gs k.rs k.qs k.m k.all k.every k.ea k.ee k.context k.up u.0 u.1) (λ m. m) best))

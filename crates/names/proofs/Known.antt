@@ -1,5 +1,5 @@
 -- The entries of a numbered line keep the rules of a sheet.
-use Rattle.std.proofs.Common.{◌≡◌, ℕ, zero, suc, ◌<◌, ◌≤◌, Bool, true, ◌&&◌, List, [], ◌∷◌, ◌++◌, map, length, get_or, take, sym, refl, ap, subst, ⊎_elim, arith}
+use Rattle.std.proofs.Common.{◌≡◌, ℕ, zero, suc, ◌<◌, ◌≤◌, Bool, true, ◌&&◌, List, [], ◌∷◌, ◌++◌, map, length, get_or, take, Option, sym, refl, ap, subst, ⊎_elim, arith}
 use Rattle.std.proofs.str.Laws.{order}
 use Rattle.std.proofs.lemmas.Bool.Decides.{nat_tests}
 use Rattle.formula.specs.declared.Comparison.{Comparison}
@@ -149,7 +149,7 @@ module _ (text : List ℕ) (raw : List NodeEntry) (nodes : List Node) (fs : List
       grind (arith, nat_tests, start, from, less, known)
 
   joined_good :
-      (i : ℕ) {a b : ℕ} {j : Join} {v : WeightsEntry} (m : Node) → Numbered text fs rs ps (Joined j v a b) m
+      (i : ℕ) {a b : ℕ} {j : Join} {v : Option WeightsEntry} (m : Node) → Numbered text fs rs ps (Joined j v a b) m
       → (1 ≤ left_weight (weights_of v)) × (left_weight (weights_of v) ≤ 1023)
       → (1 ≤ right_weight (weights_of v)) × (right_weight (weights_of v) ≤ 1023)
       → low ≤ a → a < i → low ≤ b → b < i → Good i m

@@ -1,57 +1,59 @@
--- What a loop over lines has found.
-use Rattle.std.proofs.Common.{◌≡◌, ℕ, zero, suc, ◌+◌, ◌<◌, ◌≤◌, Bool, true, false, ◌⊎◌, List, [], ◌∷◌, length, get_or, take, Decides, sym, refl, subst, ⊎_elim, arith}
-use Rattle.std.proofs.str.Laws.{order}
-use Rattle.grammar.specs.declared.table.RuleLine.{RuleLine}
+-- What a search over lines has found.
+use Rattle.std.proofs.Common.{◌≡◌, ℕ, zero, suc, ◌<◌, Bool, true, false, IsTrue, ◌↔◌, List, [], ◌∷◌, length, get_or, Option, Some, None, IsSome, IfSome, MatchOption, MatchBool, sym, refl, subst, arith}
+use Rattle.std.proofs.lemmas.Bool.{false≢true}
+use Rattle.std.specs.List.{AllWithin, HoldsAt}
 use Rattle.names.specs.Lists.{Stands, here, there}
-use Rattle.names.specs.Looking.{Tells}
+use Rattle.names.specs.Looking.{Found, SomeOf}
 
-pub tells : {P : Type 0} (r : Bool) → Decides r P → Tells P r
-tells true d = d.0 refl
-tells false d = λ p. let e = d.1 p in let z : ◌≡◌ {A = ℕ} 0 1 = cc in absurd (omega arith)
+-- an item is read where it stands
+pub stands_read : {A : Type 0} {xs : List A} {i : ℕ} {x : A} (d : A) → Stands A xs i x → (i < length xs) × (get_or xs i d ≡ x)
+stands_read d here = (omega arith, refl)
+stands_read d (there s) = let h = stands_read d s in (omega arith, h.1)
 
-pub tells_like : {P Q : Type 0} (b : Bool) → (P → Q) → (Q → P) → Tells P b → Tells Q b
-tells_like true to from t = to t
-tells_like false to from t = λ q. t (from q)
+-- some item stands at each place
+pub stands_some : {A : Type 0} (xs : List A) (i : ℕ) → i < length xs → (x : A) × Stands A xs i x
+stands_some [] i lt = absurd (omega arith)
+stands_some (x ∷ xs) zero lt = (x, here)
+stands_some (x ∷ xs) (suc i) lt = let h = stands_some xs i (omega arith) in (h.0, there h.1)
 
--- what a line reads as past the end of a list
-abbrev pub no_rule_line : RuleLine
-no_rule_line =
-    record { first = 0; name = record { place = 0; length = 0 }; params = []; param_count = 0; start = 0; body = 0 }
+-- what is read at a place stands there
+pub stands_at : {A : Type 0} (xs : List A) (i : ℕ) (d : A) → i < length xs → Stands A xs i (get_or xs i d)
+stands_at {A} xs i d lt = let s = stands_some xs i lt in subst (Stands A xs i) (sym (stands_read d s.1).1) s.1
 
--- no item below i has the property
-abbrev pub NoneBelow : {A : Type 0} → (A → Type 0) → List A → ℕ → Type 0
-NoneBelow {A} P xs i = (k : ℕ) (x : A) → k < i → Stands A xs k x → P x → ⊥
+none_stands :
+    {A : Type 0} (P : A → Type 0) (xs : List A)
+    → AllWithin (λ x. P x → ⊥) xs 0 (length xs) → (i : ℕ) (x : A) → Stands A xs i x → P x → ⊥
+none_stands P xs none i x s p =
+    let h = stands_read x s in none i x (omega arith) h.0 (subst P (sym h.1) p)
 
--- the item that is read at i stands there
-pub stands_at : {A : Type 0} (xs : List A) (below i : ℕ) (d : A) → i < below → i < length xs → Stands A (take below xs) i (get_or xs i d)
-stands_at xs zero i d lt len = absurd (omega arith)
-stands_at [] (suc b) i d lt len = absurd (omega arith)
-stands_at (x ∷ xs) (suc b) zero d lt len = here
-stands_at (x ∷ xs) (suc b) (suc i) d lt len = there (stands_at xs b i d (omega arith) (omega arith))
+holds_stands : {A : Type 0} (P : A → Type 0) (xs : List A) (i : ℕ) → i < length xs → HoldsAt P xs i → (x : A) × Stands A xs i x × P x
+holds_stands P xs i lt h =
+    let s = stands_some xs i lt in (s.0, s.1, subst P (stands_read s.0 s.1).1 (h s.0))
 
-pub stands_is : {A : Type 0} (xs : List A) (below : ℕ) {i : ℕ} {x : A} (d : A) → Stands A (take below xs) i x → get_or xs i d ≡ x
-stands_is xs zero d s = elim s [ ]
-stands_is [] (suc b) d s = elim s [ ]
-stands_is (x ∷ xs) (suc b) d here = refl
-stands_is (x ∷ xs) (suc b) d (there s) = stands_is xs b d s
+-- what `position` answers
+pub found_first :
+    {A : Type 0} (P : A → Type 0) (xs : List A) (r : Option ℕ)
+    → MatchOption r (AllWithin (λ x. P x → ⊥) xs 0 (length xs)) (λ i. (i < length xs) × HoldsAt P xs i × AllWithin (λ x. P x → ⊥) xs 0 i)
+    → Found P xs r × IfSome r (λ i. i < length xs)
+found_first P xs None none = (none_stands P xs none, tt)
+found_first P xs (Some i) h = (holds_stands P xs i h.0 h.1, h.0)
 
-pub stands_below : {A : Type 0} (xs : List A) (below : ℕ) {i : ℕ} {x : A} → Stands A (take below xs) i x → (i < below) × (i < length xs)
-stands_below xs zero s = elim s [ ]
-stands_below [] (suc b) s = elim s [ ]
-stands_below (x ∷ xs) (suc b) here = (omega arith, omega arith)
-stands_below (x ∷ xs) (suc b) (there s) = let h = stands_below xs b s in (omega (arith, h), omega (arith, h))
+-- what `any` answers
+pub some_found :
+    {A : Type 0} (P : A → Type 0) (xs : List A) (r : Bool)
+    → MatchBool r ((k : ℕ) × (k < length xs) × HoldsAt P xs k) (AllWithin (λ x. P x → ⊥) xs 0 (length xs))
+    → IsTrue r ↔ SomeOf P xs
+some_found P xs true h = (λ _. let s = holds_stands P xs h.0 h.1 h.2 in (h.0, s.0, s.1, s.2), λ _. refl)
+some_found P xs false none = (λ e. absurd (false≢true e), λ s. absurd (none_stands P xs none s.0 s.1 s.2 s.3))
 
-pub none_more :
-    {A : Type 0} (P : A → Type 0) (xs : List A) (below i : ℕ) (d : A)
-    → NoneBelow P (take below xs) i → (P (get_or xs i d) → ⊥) → NoneBelow P (take below xs) (i + 1)
-none_more P xs below i d before this k x h s p =
-    ⊎_elim (λ lt. before k x lt s p)
-    (λ ge. let e : k ≡ i = omega arith in this (subst (λ z. P (get_or xs z d)) e (subst P (sym (stands_is xs below d s)) p))) (order k i)
+-- what a test says where it is true, and where it is false
+pub holds : {P : Type 0} → (IsTrue true ↔ P) → P
+holds h = h.0 refl
 
-pub none_all :
-    {A : Type 0} (P : A → Type 0) (xs : List A) (below i : ℕ)
-    → (below ≤ i) ⊎ (length xs ≤ i) → NoneBelow P (take below xs) i
-    → (k : ℕ) (x : A) → Stands A (take below xs) k x → P x → ⊥
-none_all P xs below i end none k x s p =
-    let h = stands_below xs below s in
-    none k x (⊎_elim (λ e. omega (arith, h)) (λ e. omega (arith, h)) end) s p
+pub fails : {P : Type 0} → (IsTrue false ↔ P) → P → ⊥
+fails h p = false≢true (h.1 p)
+
+-- what `find` found is one of those that have the property, or there is none
+pub some_if_found : {A : Type 0} (P : A → Type 0) (xs : List A) (r : Option ℕ) → Found P xs r → IsSome r ↔ SomeOf P xs
+some_if_found P xs None none = (λ e. absurd (false≢true e), λ s. absurd (none s.0 s.1 s.2 s.3))
+some_if_found P xs (Some i) h = (λ e. (i, h.0, h.1, h.2), λ s. refl)

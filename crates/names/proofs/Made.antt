@@ -1,12 +1,12 @@
 -- The parts that are made of a table without fault keep the rules of a sheet, and are what the sheet comes to.
-use Rattle.std.proofs.Common.{◌≡◌, ℕ, zero, suc, ◌+◌, ◌<◌, ◌≤◌, true, List, [], ◌∷◌, ◌++◌, map, length, take, Some, None, sym, refl, ap, ◌∙◌, subst, ⊎_elim, append_assoc, arith}
+use Rattle.std.proofs.Common.{◌≡◌, ℕ, zero, suc, ◌+◌, ◌<◌, ◌≤◌, true, List, [], ◌∷◌, ◌++◌, map, length, get_or, take, Some, None, Ok, sym, refl, ap, ◌∙◌, subst, ⊎_elim, append_assoc, arith}
 use Rattle.std.proofs.str.Laws.{order}
 use Rattle.std.proofs.lemmas.List.{length-map, length-take-le}
 use Rattle.formula.specs.Trees as tree
 use Rattle.grammar.specs.declared.table.Table.{Table}
 use Rattle.grammar.specs.Grammar.{any, formula}
 use Rattle.grammar.specs.Syntax.{Word, num, Formula, Field, field_line, Rule, rule_line, mark_line, Sheet, sheet}
-use Rattle.grammar.specs.Tables.{field_of, fields_of, Entries, LinesAbove, Holds, whole, over_field, over_rule, over_mark, Over, many_joins, many_formulas, size, joins, nested, SomeFields, SmallFields, ReadFormula, ReadRules, WellRead}
+use Rattle.grammar.specs.Tables.{word_of, field_of, fields_of, Entries, LinesAbove, Holds, whole, over_field, over_rule, over_mark, Over, many_joins, many_formulas, size, joins, nested, SomeFields, SmallFields, ReadFormula, ReadRules, WellRead}
 use Rattle.sheet.specs.declared.node.Node.{Node}
 use Rattle.sheet.specs.declared.node.Range.{Range}
 use Rattle.sheet.specs.declared.node.Line.{Line}
@@ -19,23 +19,21 @@ use Rattle.sheet.proofs.Holding.{held_within}
 use Rattle.names.specs.Lists.{Stands, here, there, In, Each, end, item}
 use Rattle.names.specs.Names.{Calls, the_rule, FormulaIs, FieldIs, field_is, RulesAre, no_rules, one_rule, Resolves, resolved}
 use Rattle.names.specs.Faults.{weight, uses, zero_weight, wrong_range, rule_formula, mark_formula, Faulty, in_field, in_rule, in_mark, sizes, Named}
-use Rattle.names.specs.Looking.{IsHead, AllNumbered, LinesSettled, RangesOf, LinesOf, field_at, rule_at, rule_params, rule_body}
-use Rattle.names.proofs.Places.{stands_length, stands_upto}
-use Rattle.names.proofs.Lookups.{stands_at, stands_is, no_rule_line}
-use Rattle.names.proofs.Numbering.{map_stands}
-use Rattle.names.proofs.Loops.{LineOf, line_of, rules_long, rules_end, length_take_all}
+use Rattle.names.specs.Looking.{no_rule_line, IsHead, AllNumbered, LinesSettled, RangesOf, LinesOf, field_at, rule_at, rule_params, rule_body}
+use Rattle.names.proofs.Places.{stands_length, stands_upto, stands_once}
+use Rattle.names.proofs.Lookups.{stands_at}
+use Rattle.names.proofs.Numbering.{stands_map, map_stands}
+use Rattle.names.proofs.Loops.{LineOf, line_of, rules_long, rules_end}
 use Rattle.names.proofs.Parts.{entries_size, size_some}
 use Rattle.names.proofs.Trees.{same_size, same_joins, same_nested, tree_at}
 use Rattle.names.proofs.Known.{Weighted, kept_at}
 
-stands_same : {A : Type 0} {xs : List A} {i : ℕ} {a b : A} → Stands A xs i a → Stands A xs i b → a ≡ b
-stands_same here here = refl
-stands_same (there s) (there u) = stands_same s u
-
-stands_there : {A : Type 0} (xs : List A) (i : ℕ) → i < length xs → (x : A) × Stands A xs i x
-stands_there [] i lt = absurd (omega arith)
-stands_there (x ∷ xs) zero lt = (x, here)
-stands_there (x ∷ xs) (suc i) lt = let h = stands_there xs i (omega arith) in (h.0, there h.1)
+-- what stands among the first items is read there
+stands_is : {A : Type 0} (xs : List A) (n : ℕ) {i : ℕ} {x : A} (d : A) → Stands A (take n xs) i x → get_or xs i d ≡ x
+stands_is xs zero d s = elim s [ ]
+stands_is [] (suc n) d s = elim s [ ]
+stands_is (x ∷ xs) (suc n) d here = refl
+stands_is (x ∷ xs) (suc n) d (there s) = stands_is xs n d s
 
 length_upto : {A : Type 0} (n : ℕ) (xs : List A) (x : A) → length (take n xs ++ (x ∷ [])) ≤ n + 1
 length_upto zero xs x = omega arith
@@ -118,71 +116,68 @@ sizes_few : (s : ℕ) (ps : List Word) (f : Formula) → (Over s ps f → ⊥) �
 sizes_few s ps f fits = ⊎_elim (λ h. absurd (fits (many_formulas h))) (λ h. h) (order 256 (s + size f))
 
 module _ (text : List ℕ) (t : Table) (nodes : List Node) (ranges : List Range) (lines : List Line)
-    (ranges_are : RangesOf t.fields t.field_count ranges) (lines_are : LinesOf t.rules t.rule_count t.mark lines)
+    (ranges_are : RangesOf t.fields.items ranges) (lines_are : LinesOf t.rules.items t.mark lines)
     (fs : List Field) (rs : List Rule) (p : ℕ) (f : Formula) (e : ℕ)
     (above : LinesAbove text t fs rs e) (starts : t.mark.start ≡ e)
-    (d : Entries text t.nodes e t.mark.body f) (fits : Over e [] f → ⊥)
+    (d : Entries text t.nodes.items e t.mark.body f) (fits : Over e [] f → ⊥)
     (well : WellRead (sheet fs rs (mark_line p f)))
     (none : (n q : ℕ) → Faulty (sheet fs rs (mark_line p f)) n q → ⊥)
     (numbered : AllNumbered text t nodes (sheet fs rs (mark_line p f))) where
   abbrev Fs : List Field
   Fs = fields_of text t
 
-  fields_long : length Fs ≡ t.field_count
-  fields_long = ap length above.fields_held ∙ sym above.field_count
+  fields_long : length Fs ≡ (length t.fields.items)
+  fields_long = length-map t.fields.items (field_of text)
 
-  rules_fit : t.rule_count ≤ length t.rules
-  rules_fit =
-      let a = rules_long text t.nodes above.rules_held in
-      let b = length_take_all t.rule_count t.rules in
-      omega (arith, above.rule_count)
+  field_count : length t.fields.items ≡ length fs
+  field_count = sym fields_long ∙ ap length above.fields_held
+
+  rule_count : length t.rules.items ≡ length rs
+  rule_count = rules_long text t.nodes.items above.rules_held
 
   -- the rule line of number i
-  line : (i : ℕ) → i < length rs → LineOf text t.nodes 0 rs i (rule_at t.rules i)
-  line i lt =
-      let c = above.rule_count in
-      let b = rules_fit in
-      line_of text t.nodes above.rules_held (stands_at t.rules t.rule_count i no_rule_line (omega arith) (omega arith))
+  line : (i : ℕ) → i < length rs → LineOf text t.nodes.items 0 rs i (rule_at t.rules.items i)
+  line i lt = let c = rule_count in line_of text t.nodes.items above.rules_held (stands_at t.rules.items i no_rule_line (omega arith))
 
   laid : (i : ℕ) → i < length rs
-      → ((table.line_at lines i).start ≡ (rule_at t.rules i).start) × ((table.line_at lines i).body ≡ (rule_at t.rules i).body)
-      × ((rule_at t.rules i).param_count ≤ 4 → (table.line_at lines i).params ≡ (rule_at t.rules i).param_count)
-  laid i lt = lines_are.1 i (omega (arith, above.rule_count)) (omega (arith, above.few_rules))
+      → ((table.line_at lines i).start ≡ (rule_at t.rules.items i).start) × ((table.line_at lines i).body ≡ (rule_at t.rules.items i).body)
+      × ((table.line_at lines i).params ≡ length (rule_at t.rules.items i).params.items)
+  laid i lt = lines_are.1 i (omega (arith, rule_count))
 
-  mark_laid : ((table.line_at lines t.rule_count).start ≡ t.mark.start) × ((table.line_at lines t.rule_count).body ≡ t.mark.body)
-      × ((table.line_at lines t.rule_count).params ≡ 0)
-  mark_laid = lines_are.2 (omega (arith, above.rule_count, above.few_rules))
+  mark_laid : ((table.line_at lines (length t.rules.items)).start ≡ t.mark.start) × ((table.line_at lines (length t.rules.items)).body ≡ t.mark.body)
+      × ((table.line_at lines (length t.rules.items)).params ≡ 0)
+  mark_laid = lines_are.2
 
   params_at : (i : ℕ) (x : Rule) → Stands Rule rs i x → ((table.line_at lines i).params ≡ length (rule_params x)) × (length (rule_params x) ≤ 4)
   params_at i x st =
       let lt = stands_length st in
       let at = line i lt in
-      go at.rule at.head (stands_same at.stands st)
+      go at.rule at.head (stands_once at.stands st)
     where
-      go : (y : Rule) → IsHead text (rule_at t.rules i) y → y ≡ x → ((table.line_at lines i).params ≡ length (rule_params x)) × (length (rule_params x) ≤ 4)
+      go : (y : Rule) → IsHead text (rule_at t.rules.items i) y → y ≡ x → ((table.line_at lines i).params ≡ length (rule_params x)) × (length (rule_params x) ≤ 4)
       go (rule_line a w ps g) h same =
           subst (λ z. ((table.line_at lines i).params ≡ length (rule_params z)) × (length (rule_params z) ≤ 4)) same
-          ((laid i (stands_length st)).2 (omega (arith, h.2, h.4)) ∙ h.2, h.4)
+          ((laid i (stands_length st)).2 ∙ sym (length-map (rule_at t.rules.items i).params.items (word_of text)) ∙ ap length h.2, h.3)
 
   -- which rules a line may call
   calls_rule :
       (i : ℕ) (x : Rule) → Stands Rule rs i x → (w : Word) (k : ℕ) (qs : List Word) → Calls (take i rs ++ (x ∷ [])) w k qs
-      → (k < t.rule_count) × (k ≤ i) × ((table.line_at lines k).params ≡ length qs) × (length qs ≤ 4)
+      → (k < (length t.rules.items)) × (k ≤ i) × ((table.line_at lines k).params ≡ length qs) × (length qs ≤ 4)
   calls_rule i x st w k qs (the_rule s eq) =
       let up = stands_upto st s in
       let a = stands_length up in
       let b = stands_length s in
       let c = length_upto i rs x in
       let h = params_at k _ up in
-      (omega (arith, above.rule_count), omega arith, h.0, h.1)
+      (omega (arith, rule_count), omega arith, h.0, h.1)
 
   calls_mark :
       (w : Word) (k : ℕ) (qs : List Word) → Calls rs w k qs
-      → (k < t.rule_count) × (k ≤ t.rule_count) × ((table.line_at lines k).params ≡ length qs) × (length qs ≤ 4)
+      → (k < (length t.rules.items)) × (k ≤ (length t.rules.items)) × ((table.line_at lines k).params ≡ length qs) × (length qs ≤ 4)
   calls_mark w k qs (the_rule s eq) =
       let a = stands_length s in
       let h = params_at k _ s in
-      (omega (arith, above.rule_count), omega (arith, above.rule_count), h.0, h.1)
+      (omega (arith, rule_count), omega (arith, rule_count), h.0, h.1)
 
   weighted_rule : (i : ℕ) (x : Rule) → Stands Rule rs i x → Weighted (rule_body x)
   weighted_rule i (rule_line a w ps g) st v q m =
@@ -198,37 +193,37 @@ module _ (text : List ℕ) (t : Table) (nodes : List Node) (ranges : List Range)
       absurd (none 10 q (in_mark (mark_formula (weight (num 0 q), subst (λ u. In _ (uses f) (weight (num u q))) z m, zero_weight)))))
       (order 0 v)
 
-  d' : Entries text t.nodes t.mark.start t.mark.body f
-  d' = subst (λ z. Entries text t.nodes z t.mark.body f) (sym starts) d
+  d' : Entries text t.nodes.items t.mark.start t.mark.body f
+  d' = subst (λ z. Entries text t.nodes.items z t.mark.body f) (sym starts) d
 
   -- the trees of the lines
-  rule_body_end : (i : ℕ) (lt : i < length rs) → (rule_at t.rules i).body < 256
+  rule_body_end : (i : ℕ) (lt : i < length rs) → (rule_at t.rules.items i).body < 256
   rule_body_end i lt =
       let at = line i lt in
-      let a = entries_size text t.nodes at.entries in
+      let a = entries_size text t.nodes.items at.entries in
       let b = sizes_few _ _ _ at.within in
       omega (arith, at.starts)
 
   rule_tree :
       (i : ℕ) (x : Rule) → Stands Rule rs i x
-      → FormulaIs Fs (take i rs ++ (x ∷ [])) (rule_params x) (rule_body x) (formula_at nodes (rule_at t.rules i).body)
+      → FormulaIs Fs (take i rs ++ (x ∷ [])) (rule_params x) (rule_body x) (formula_at nodes (rule_at t.rules.items i).body)
   unfolding formula_at
   rule_tree i x st =
       let lt = stands_length st in
       let at = line i lt in
-      let same = stands_same at.stands st in
-      let entries = subst (λ z. Entries text t.nodes (rule_at t.rules i).start (rule_at t.rules i).body (rule_body z)) same at.entries in
-      let h = tree_at text t.nodes nodes Fs (take i rs ++ (x ∷ [])) (rule_params x) (rule_at t.rules i).start ((rule_at t.rules i).body + 1)
+      let same = stands_once at.stands st in
+      let entries = subst (λ z. Entries text t.nodes.items (rule_at t.rules.items i).start (rule_at t.rules.items i).body (rule_body z)) same at.entries in
+      let h = tree_at text t.nodes.items nodes Fs (take i rs ++ (x ∷ [])) (rule_params x) (rule_at t.rules.items i).start ((rule_at t.rules.items i).body + 1)
       (numbered.0 i x lt st) (λ w k qs c. (calls_rule i x st w k qs c).3) entries (omega arith) (omega arith) in
-      subst (FormulaIs Fs (take i rs ++ (x ∷ [])) (rule_params x) (rule_body x)) (held_within nodes 256 (rule_at t.rules i).body h.0 (rule_body_end i lt) h.1) h.2
+      subst (FormulaIs Fs (take i rs ++ (x ∷ [])) (rule_params x) (rule_body x)) (held_within nodes 256 (rule_at t.rules.items i).body h.0 (rule_body_end i lt) h.1) h.2
 
   mark_end : t.mark.body < 256
-  mark_end = let a = entries_size text t.nodes d in let b = sizes_few _ _ _ fits in omega arith
+  mark_end = let a = entries_size text t.nodes.items d in let b = sizes_few _ _ _ fits in omega arith
 
   mark_tree : FormulaIs Fs rs [] f (formula_at nodes t.mark.body)
   unfolding formula_at
   mark_tree =
-      let h = tree_at text t.nodes nodes Fs rs [] t.mark.start (t.mark.body + 1) numbered.1 (λ w k qs c. (calls_mark w k qs c).3) d' (omega arith) (omega arith) in
+      let h = tree_at text t.nodes.items nodes Fs rs [] t.mark.start (t.mark.body + 1) numbered.1 (λ w k qs c. (calls_mark w k qs c).3) d' (omega arith) (omega arith) in
       subst (FormulaIs Fs rs [] f) (held_within nodes 256 t.mark.body h.0 mark_end h.1) h.2
 
   -- a line of the sheet is a rule line, or the mark line
@@ -237,10 +232,10 @@ module _ (text : List ℕ) (t : Table) (nodes : List Node) (ranges : List Range)
       (rs' : List Rule) × (ps : List Word) × (g : Formula)
       × FormulaIs Fs rs' ps g (formula_at nodes (table.line_at lines l).body) × (joins g ≤ 16) × (nested g (formula any) ≤ 16)
 
-  line_tree : (l : ℕ) → l ≤ t.rule_count → LineTree l
+  line_tree : (l : ℕ) → l ≤ (length t.rules.items) → LineTree l
   line_tree l le =
       ⊎_elim
-      (λ lt. let less : l < length rs = omega (arith, above.rule_count) in
+      (λ lt. let less : l < length rs = omega (arith, rule_count) in
       let at = line l less in (
         take l rs ++ (at.rule ∷ []),
         rule_params at.rule,
@@ -249,82 +244,79 @@ module _ (text : List ℕ) (t : Table) (nodes : List Node) (ranges : List Range)
         joins_few _ _ _ at.within,
         (read_rule rs well.2 at.stands).0,
       ))
-      (λ ge. let same : t.rule_count ≡ l = omega arith in
+      (λ ge. let same : length t.rules.items ≡ l = omega arith in
       subst LineTree same
       (rs, [], f, subst (λ b. FormulaIs Fs rs [] f (formula_at nodes b)) (sym mark_laid.1) mark_tree, joins_few _ _ _ fits, well.3.0))
-      (order l t.rule_count)
+      (order l (length t.rules.items))
 
   -- the entries of a line are in order
   rule_entries :
       (l : ℕ) (lt : l < length rs) (i : ℕ) → (table.line_at lines l).start ≤ i → i ≤ (table.line_at lines l).body
-      → entry_kept (length Fs) t.rule_count lines l i (table.node_at nodes i) ≡ true
+      → entry_kept (length Fs) (length t.rules.items) lines l i (table.node_at nodes i) ≡ true
   rule_entries l lt i from to =
       let at = line l lt in
       let x = at.rule in
       let a = laid l lt in
-      kept_at text t.nodes nodes Fs (take l rs ++ (x ∷ [])) (rule_params x) t.rule_count lines l
-      (rule_at t.rules l).start ((rule_at t.rules l).body + 1) (params_at l x at.stands).0 a.0 (numbered.0 l x lt at.stands)
+      kept_at text t.nodes.items nodes Fs (take l rs ++ (x ∷ [])) (rule_params x) (length t.rules.items) lines l
+      (rule_at t.rules.items l).start ((rule_at t.rules.items l).body + 1) (params_at l x at.stands).0 a.0 (numbered.0 l x lt at.stands)
       (calls_rule l x at.stands) at.entries (omega arith) (omega arith) (read_rule rs well.2 at.stands).1 (weighted_rule l x at.stands)
       i (omega arith) (omega arith)
 
   mark_entries :
-      (i : ℕ) → (table.line_at lines t.rule_count).start ≤ i → i ≤ (table.line_at lines t.rule_count).body
-      → entry_kept (length Fs) t.rule_count lines t.rule_count i (table.node_at nodes i) ≡ true
+      (i : ℕ) → (table.line_at lines (length t.rules.items)).start ≤ i → i ≤ (table.line_at lines (length t.rules.items)).body
+      → entry_kept (length Fs) (length t.rules.items) lines (length t.rules.items) i (table.node_at nodes i) ≡ true
   mark_entries i from to =
       let a = mark_laid in
-      kept_at text t.nodes nodes Fs rs [] t.rule_count lines t.rule_count
+      kept_at text t.nodes.items nodes Fs rs [] (length t.rules.items) lines (length t.rules.items)
       t.mark.start (t.mark.body + 1) a.2 a.0 numbered.1 calls_mark d' (omega arith) (omega arith) well.3.1 weighted_mark
       i (omega arith) (omega arith)
 
   -- the ranges
-  field_of_line : (i : ℕ) → i < t.field_count → Stands Field fs i (field_of text (field_at t.fields i))
+  field_of_line : (i : ℕ) → i < (length t.fields.items) → Stands Field fs i (field_of text (field_at t.fields.items i))
   field_of_line i lt =
-      let c = above.field_count in
-      let s = stands_there fs i (omega arith) in
-      let m = map_stands (field_of text) (take t.field_count t.fields) (subst (λ z. Stands Field z i s.0) (sym above.fields_held) s.1) in
-      let is : field_at t.fields i ≡ m.0 = stands_is t.fields t.field_count _ m.1 in
-      subst (Stands Field fs i) (sym (ap (field_of text) is ∙ m.2)) s.1
+      subst (λ z. Stands Field z i (field_of text (field_at t.fields.items i))) above.fields_held
+      (stands_map (field_of text) (stands_at t.fields.items i _ lt))
 
   range_kept :
-      (i : ℕ) → i < t.field_count
+      (i : ℕ) → i < (length t.fields.items)
       → ((table.range_at ranges i).low ≤ (table.range_at ranges i).high) × ((table.range_at ranges i).high ≤ 1023)
   unfolding SmallField
   range_kept i lt =
       let at = field_of_line i lt in
-      let r = ranges_are.1 i lt (omega (arith, above.field_count, above.few_fields)) in
-      let l = field_at t.fields i in
+      let r = ranges_are.1 i lt in
+      let l = field_at t.fields.items i in
       let ordered : l.low.value ≤ l.high.value =
       ⊎_elim (λ h. absurd (none 10 l.low.place (in_field at (wrong_range h)))) (λ h. h) (order l.high.value l.low.value) in
       let small = small_field fs well.1 at in
       (omega arith, omega (arith, small.1))
 
   -- how the lines of the sheet are read off the list
-  lines_fit : length (take t.rule_count lines) ≡ length rs
-  lines_fit = length-take-le t.rule_count lines (omega (arith, lines_are.0, above.rule_count, above.few_rules)) ∙ above.rule_count
+  lines_fit : length (take (length t.rules.items) lines) ≡ length rs
+  lines_fit = length-take-le (length t.rules.items) lines (omega (arith, lines_are.0, rule_count, above.few_rules)) ∙ rule_count
 
-  line_is : {i : ℕ} {l : Line} → Stands Line (take t.rule_count lines) i l → table.line_at lines i ≡ l
-  line_is st = stands_is lines t.rule_count _ st
+  line_is : {i : ℕ} {l : Line} → Stands Line (take (length t.rules.items) lines) i l → table.line_at lines i ≡ l
+  line_is st = stands_is lines (length t.rules.items) _ st
 
-  few_in_all : keeping.FewFormulas t.rule_count lines nodes
+  few_in_all : keeping.FewFormulas (length t.rules.items) lines nodes
   few_in_all =
-      let sum : keeping.sizes nodes (take t.rule_count lines) ≡ sizes rs =
-      sizes_by_place nodes (take t.rule_count lines) rs lines_fit
+      let sum : keeping.sizes nodes (take (length t.rules.items) lines) ≡ sizes rs =
+      sizes_by_place nodes (take (length t.rules.items) lines) rs lines_fit
       (λ i l x s u. ap (λ z. keeping.size (formula_at nodes z)) (sym (ap (λ z. z.body) (line_is s)) ∙ (laid i (stands_length u)).1) ∙ same_size (rule_tree i x u)) in
-      let last : keeping.size (formula_at nodes (table.line_at lines t.rule_count).body) ≡ size f =
+      let last : keeping.size (formula_at nodes (table.line_at lines (length t.rules.items)).body) ≡ size f =
       ap (λ z. keeping.size (formula_at nodes z)) mark_laid.1 ∙ same_size mark_tree in
-      let a = rules_end text t.nodes above.rules_held in
+      let a = rules_end text t.nodes.items above.rules_held in
       let b = sizes_few e [] f fits in
       omega arith
 
   -- what the sheet comes to
   rule_at_place :
-      (i : ℕ) (x : Rule) (y : tree.Rule) → Stands Rule rs i x → Stands tree.Rule (map (rule_of nodes) (take t.rule_count lines)) i y
+      (i : ℕ) (x : Rule) (y : tree.Rule) → Stands Rule rs i x → Stands tree.Rule (map (rule_of nodes) (take (length t.rules.items) lines)) i y
       → RuleIs Fs (take i rs) x y
   unfolding RuleIs
   rule_at_place i x y u s =
-      let m = map_stands (rule_of nodes) (take t.rule_count lines) s in
+      let m = map_stands (rule_of nodes) (take (length t.rules.items) lines) s in
       let lt = stands_length u in
-      let body : m.0.body ≡ (rule_at t.rules i).body = sym (ap (λ z. z.body) (line_is m.1)) ∙ (laid i lt).1 in
+      let body : m.0.body ≡ (rule_at t.rules.items i).body = sym (ap (λ z. z.body) (line_is m.1)) ∙ (laid i lt).1 in
       let params : m.0.params ≡ length (rule_params x) = sym (ap (λ z. z.params) (line_is m.1)) ∙ (params_at i x u).0 in (
         formula_at nodes m.0.body,
         sym m.2 ∙ ap (λ n. tree.rule n (formula_at nodes m.0.body)) params,
@@ -332,37 +324,37 @@ module _ (text : List ℕ) (t : Table) (nodes : List Node) (ranges : List Range)
       )
 
   field_at_place :
-      (i : ℕ) (x : Field) (y : tree.Range) → Stands Field fs i x → Stands tree.Range (map range_of (take t.field_count ranges)) i y → FieldIs x y
+      (i : ℕ) (x : Field) (y : tree.Range) → Stands Field fs i x → Stands tree.Range (map range_of (take (length t.fields.items) ranges)) i y → FieldIs x y
   field_at_place i x y u s =
-      let m = map_stands range_of (take t.field_count ranges) s in
-      let lt : i < t.field_count = let h = stands_length u in omega (arith, above.field_count) in
-      let is : table.range_at ranges i ≡ m.0 = stands_is ranges t.field_count _ m.1 in
-      let r = ranges_are.1 i lt (omega (arith, above.field_count, above.few_fields)) in
-      let l = field_at t.fields i in
+      let m = map_stands range_of (take (length t.fields.items) ranges) s in
+      let lt : i < (length t.fields.items) = let h = stands_length u in omega (arith, field_count) in
+      let is : table.range_at ranges i ≡ m.0 = stands_is ranges (length t.fields.items) _ m.1 in
+      let r = ranges_are.1 i lt in
+      let l = field_at t.fields.items i in
       let value : tree.range l.low.value l.high.value ≡ y =
       let a = r.0 in let b = r.1 in let c = m.2 in let d = ap (λ z. z.low) is in let g = ap (λ z. z.high) is in cc in
-      subst (λ z. FieldIs z y) (stands_same (field_of_line i lt) u) (subst (FieldIs (field_of text l)) value field_is)
+      subst (λ z. FieldIs z y) (stands_once (field_of_line i lt) u) (subst (FieldIs (field_of text l)) value field_is)
 
-  pub parts_resolve : Resolves (sheet fs rs (mark_line p f)) (tree_of_parts ranges t.field_count lines t.rule_count nodes)
+  pub parts_resolve : Resolves (sheet fs rs (mark_line p f)) (tree_of_parts ranges (length t.fields.items) lines (length t.rules.items) nodes)
   parts_resolve =
-      let fields_fit : length fs ≡ length (map range_of (take t.field_count ranges)) =
-      sym (length-map (take t.field_count ranges) range_of
-      ∙ length-take-le t.field_count ranges (omega (arith, ranges_are.0, above.field_count, above.few_fields)) ∙ above.field_count) in
-      let rules_fit' : length rs ≡ length (map (rule_of nodes) (take t.rule_count lines)) =
-      sym (length-map (take t.rule_count lines) (rule_of nodes) ∙ lines_fit) in
+      let fields_fit : length fs ≡ length (map range_of (take (length t.fields.items) ranges)) =
+      sym (length-map (take (length t.fields.items) ranges) range_of
+      ∙ length-take-le (length t.fields.items) ranges (omega (arith, ranges_are.0, field_count, above.few_fields)) ∙ field_count) in
+      let rules_fit' : length rs ≡ length (map (rule_of nodes) (take (length t.rules.items) lines)) =
+      sym (length-map (take (length t.rules.items) lines) (rule_of nodes) ∙ lines_fit) in
       let eF = above.fields_held in
       resolved
-      (each_by_place FieldIs fs (map range_of (take t.field_count ranges)) fields_fit field_at_place)
-      (subst (λ z. RulesAre z [] rs (map (rule_of nodes) (take t.rule_count lines))) eF
-      (rules_by_place Fs [] rs (map (rule_of nodes) (take t.rule_count lines)) rules_fit' rule_at_place))
-      (subst (λ z. FormulaIs z rs [] f (formula_at nodes (table.line_at lines t.rule_count).body)) eF
+      (each_by_place FieldIs fs (map range_of (take (length t.fields.items) ranges)) fields_fit field_at_place)
+      (subst (λ z. RulesAre z [] rs (map (rule_of nodes) (take (length t.rules.items) lines))) eF
+      (rules_by_place Fs [] rs (map (rule_of nodes) (take (length t.rules.items) lines)) rules_fit' rule_at_place))
+      (subst (λ z. FormulaIs z rs [] f (formula_at nodes (table.line_at lines (length t.rules.items)).body)) eF
       (subst (λ b. FormulaIs Fs rs [] f (formula_at nodes b)) (sym mark_laid.1) mark_tree))
 
-  pub parts_kept : PartsKept ranges t.field_count lines t.rule_count nodes
+  pub parts_kept : PartsKept ranges (length t.fields.items) lines (length t.rules.items) nodes
   parts_kept =
       record {
-        some_fields = let h = some_length fs well.0 in (omega (arith, above.field_count), omega (arith, above.field_count, above.few_fields));
-        few_rules = omega (arith, above.rule_count, above.few_rules);
+        some_fields = let h = some_length fs well.0 in (omega (arith, field_count), omega (arith, field_count, above.few_fields));
+        few_rules = omega (arith, rule_count, above.few_rules);
         ranges_kept = range_kept;
         lines_kept = λ l le. line_kept l le;
         mark_plain = mark_laid.2;
@@ -372,51 +364,51 @@ module _ (text : List ℕ) (t : Table) (nodes : List Node) (ranges : List Range)
         few_formulas = few_in_all;
       }
     where
-      entries : (l i : ℕ) → Within t.rule_count lines l i → entry_kept t.field_count t.rule_count lines l i (table.node_at nodes i) ≡ true
+      entries : (l i : ℕ) → Within (length t.rules.items) lines l i → entry_kept (length t.fields.items) (length t.rules.items) lines l i (table.node_at nodes i) ≡ true
       entries l i w =
-          subst (λ n. entry_kept n t.rule_count lines l i (table.node_at nodes i) ≡ true) fields_long
+          subst (λ n. entry_kept n (length t.rules.items) lines l i (table.node_at nodes i) ≡ true) fields_long
           (⊎_elim
-          (λ lt. rule_entries l (omega (arith, above.rule_count)) i w.1 w.2)
-          (λ ge. let same : t.rule_count ≡ l = let a = w.0 in omega arith in
-          subst (λ k. (table.line_at lines k).start ≤ i → i ≤ (table.line_at lines k).body → entry_kept (length Fs) t.rule_count lines k i (table.node_at nodes i) ≡ true) same
+          (λ lt. rule_entries l (omega (arith, rule_count)) i w.1 w.2)
+          (λ ge. let same : length t.rules.items ≡ l = let a = w.0 in omega arith in
+          subst (λ k. (table.line_at lines k).start ≤ i → i ≤ (table.line_at lines k).body → entry_kept (length Fs) (length t.rules.items) lines k i (table.node_at nodes i) ≡ true) same
           (mark_entries i) w.1 w.2)
-          (order l t.rule_count))
+          (order l (length t.rules.items)))
 
-      line_kept : (l : ℕ) → l ≤ t.rule_count
+      line_kept : (l : ℕ) → l ≤ (length t.rules.items)
           → ((table.line_at lines l).params ≤ 4) × ((table.line_at lines l).start ≤ (table.line_at lines l).body) × ((table.line_at lines l).body < 256)
       line_kept l le =
           ⊎_elim
-          (λ lt. let less : l < length rs = omega (arith, above.rule_count) in
+          (λ lt. let less : l < length rs = omega (arith, rule_count) in
           let at = line l less in
-          let a = entries_size text t.nodes at.entries in
-          let b = size_some text t.nodes (rule_body at.rule) in
+          let a = entries_size text t.nodes.items at.entries in
+          let b = size_some text t.nodes.items (rule_body at.rule) in
           let c = params_at l at.rule at.stands in
           let h = laid l less in
           let k = rule_body_end l less in
           (omega (arith, c), omega (arith, h), omega (arith, h)))
-          (λ ge. let same : t.rule_count ≡ l = omega arith in
-          let a = entries_size text t.nodes d in
-          let b = size_some text t.nodes f in
+          (λ ge. let same : length t.rules.items ≡ l = omega arith in
+          let a = entries_size text t.nodes.items d in
+          let b = size_some text t.nodes.items f in
           let h = mark_laid in
           let k = mark_end in
           subst (λ z. ((table.line_at lines z).params ≤ 4) × ((table.line_at lines z).start ≤ (table.line_at lines z).body) × ((table.line_at lines z).body < 256)) same
           (omega (arith, h), omega (arith, h), omega (arith, h)))
-          (order l t.rule_count)
+          (order l (length t.rules.items))
 
 -- so for whatever sheet the table holds
 module _ (text : List ℕ) (t : Table) (nodes : List Node) (ranges : List Range) (lines : List Line)
-    (ranges_are : RangesOf t.fields t.field_count ranges) (lines_are : LinesOf t.rules t.rule_count t.mark lines) where
+    (ranges_are : RangesOf t.fields.items ranges) (lines_are : LinesOf t.rules.items t.mark lines) where
   not_over : {A : Type 0} {q : ℕ} → t.over ≡ None → t.over ≡ Some q → A
   not_over a b = let z : ◌≡◌ {A = ℕ} 0 1 = cc in absurd (omega arith)
 
   pub made_kept :
-      (s : Sheet) → Holds text t s → WellRead s → LinesSettled text t nodes None
-      → PartsKept ranges t.field_count lines t.rule_count nodes
-  made_kept s holds well settled = go s holds well (settled s holds well).0 ((settled s holds well).1 refl)
+      (s : Sheet) (u : Unit {0}) → Holds text t s → WellRead s → LinesSettled text t nodes (Ok u)
+      → PartsKept ranges (length t.fields.items) lines (length t.rules.items) nodes
+  made_kept s u holds well settled = let h = settled s holds well in go s holds well h.0 h.1
     where
       go :
           (s : Sheet) → Holds text t s → WellRead s → ((n q : ℕ) → Faulty s n q → ⊥) → (t.over ≡ None) × AllNumbered text t nodes s
-          → PartsKept ranges t.field_count lines t.rule_count nodes
+          → PartsKept ranges (length t.fields.items) lines (length t.rules.items) nodes
       go _ (whole {fs = fs} {rs = rs} {p = p} {e = e} {f = f} o above first starts d fits) well none h =
           parts_kept text t nodes ranges lines ranges_are lines_are fs rs p f e above starts d fits well none h.1
       go _ (over_field o above eight w low high below ea) well none h = not_over h.0 o
@@ -424,13 +416,13 @@ module _ (text : List ℕ) (t : Table) (nodes : List Node) (ranges : List Range)
       go _ (over_mark o above over) well none h = not_over h.0 o
 
   pub made_named :
-      (s : Sheet) → Holds text t s → WellRead s → LinesSettled text t nodes None
-      → Named s (tree_of_parts ranges t.field_count lines t.rule_count nodes)
-  made_named s holds well settled = go s holds well (settled s holds well).0 ((settled s holds well).1 refl)
+      (s : Sheet) (u : Unit {0}) → Holds text t s → WellRead s → LinesSettled text t nodes (Ok u)
+      → Named s (tree_of_parts ranges (length t.fields.items) lines (length t.rules.items) nodes)
+  made_named s u holds well settled = let h = settled s holds well in go s holds well h.0 h.1
     where
       go :
           (s : Sheet) → Holds text t s → WellRead s → ((n q : ℕ) → Faulty s n q → ⊥) → (t.over ≡ None) × AllNumbered text t nodes s
-          → Named s (tree_of_parts ranges t.field_count lines t.rule_count nodes)
+          → Named s (tree_of_parts ranges (length t.fields.items) lines (length t.rules.items) nodes)
       go _ (whole {fs = fs} {rs = rs} {p = p} {e = e} {f = f} o above first starts d fits) well none h =
           record {
             resolves = parts_resolve text t nodes ranges lines ranges_are lines_are fs rs p f e above starts d fits well none h.1;

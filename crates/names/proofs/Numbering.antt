@@ -1,15 +1,14 @@
 -- What is settled of names, calls and terms.
-use Rattle.std.proofs.Common.{◌≡◌, ℕ, ◌≤◌, List, [], ◌∷◌, map, length, take, Ok, Err, sym, refl, ap, ◌∙◌, subst, inr, ⊎_elim, arith}
+use Rattle.std.proofs.Common.{◌≡◌, ℕ, ◌≤◌, List, [], ◌∷◌, map, length, Ok, Err, Result, MatchResult, sym, refl, ap, ◌∙◌, subst, inr, ⊎_elim, arith}
+use Rattle.std.proofs.lemmas.List.{length-map}
 use Rattle.formula.specs.Trees as tree
 use Rattle.refusal.specs.declared.Fault.{Fault}
-use Rattle.refusal.specs.Table.{number}
 use Rattle.grammar.specs.declared.table.Word.{Word as WordEntry}
 use Rattle.grammar.specs.declared.table.Term.{Term as TermEntry}
 use Rattle.grammar.specs.declared.table.FieldLine.{FieldLine}
 use Rattle.grammar.specs.declared.table.RuleLine.{RuleLine}
-use Rattle.grammar.specs.declared.table.Table.{Table}
 use Rattle.grammar.specs.Syntax.{Word, Field, Rule, rule_line}
-use Rattle.grammar.specs.Tables.{word_of, term_of, field_of, fields_of, place_of}
+use Rattle.grammar.specs.Tables.{word_of, term_of, field_of, params_of, place_of}
 use Rattle.sheet.specs.declared.node.Name.{Name}
 use Rattle.sheet.specs.declared.node.Term.{Term as SheetTerm}
 use Rattle.sheet.specs.Table.{name_of as number_name, term_of as number_term}
@@ -17,7 +16,7 @@ use Rattle.sheet.specs.declared.node.Name.TheVariants.{Field as FieldName, Param
 use Rattle.names.specs.Lists.{Stands, here, there, In, this, that, Each, end, item}
 use Rattle.names.specs.Names.{spelling, Means, a_field, a_param, Calls, the_rule, TermIs}
 use Rattle.names.specs.Faults.{Use, term, call, term_uses, UseFault, unknown_name, unknown_rule, wrong_terms, First, NoLater}
-use Rattle.names.specs.Looking.{Alike, SomeOf, names_of, IsHead, Heads, UsesFault, NameSettled, CallSettled, TermSettled}
+use Rattle.names.specs.Looking.{Alike, SomeOf, names_of, fields_in, IsHead, Heads, UsesFault, Settles, NameSettled, CallSettled, TermSettled}
 use Rattle.names.proofs.Search.{same_number}
 
 pub stands_map : {A B : Type 0} {xs : List A} {i : ℕ} {x : A} (g : A → B) → Stands A xs i x → Stands B (map g xs) i (g x)
@@ -41,37 +40,37 @@ only_unknown :
     → UseFault fs rs ps (term w) n p → NoLater 8 (place_of w) n p
 only_unknown n p (unknown_name h) = inr (refl, omega arith)
 
-module _ (text : List ℕ) (t : Table) (ws : List WordEntry) (count : ℕ) (w : WordEntry) where
+module _ (text : List ℕ) (ls : List FieldLine) (ws : List WordEntry) (w : WordEntry) where
   pub field_settled :
-      (i : ℕ) → ((f : FieldLine) × Stands FieldLine (take t.field_count t.fields) i f × Alike text f.name w)
-      → NameSettled text t ws count w (Ok (FieldName i))
+      (i : ℕ) → ((f : FieldLine) × Stands FieldLine (ls) i f × Alike text f.name w)
+      → NameSettled text ls ws w (Ok (FieldName i))
   field_settled i h rs =
-      let m : Means (fields_of text t) (names_of text ws count) (word_of text w) (tree.field i) = a_field (stands_map (field_of text) h.1) h.2 in
+      let m : Means (fields_in text ls) (names_of text ws) (word_of text w) (tree.field i) = a_field (stands_map (field_of text) h.1) h.2 in
       (no_unknown m, m)
 
   pub param_settled :
-      (i : ℕ) → ((v : WordEntry) × Stands WordEntry (take count ws) i v × Alike text v w)
-      → NameSettled text t ws count w (Ok (Param i))
+      (i : ℕ) → ((v : WordEntry) × Stands WordEntry ws i v × Alike text v w)
+      → NameSettled text ls ws w (Ok (Param i))
   param_settled i h rs =
-      let m : Means (fields_of text t) (names_of text ws count) (word_of text w) (tree.param i) = a_param (stands_map (word_of text) h.1) h.2 in
+      let m : Means (fields_in text ls) (names_of text ws) (word_of text w) (tree.param i) = a_param (stands_map (word_of text) h.1) h.2 in
       (no_unknown m, m)
 
   no_name :
-      ((i : ℕ) (f : FieldLine) → Stands FieldLine (take t.field_count t.fields) i f → Alike text f.name w → ⊥)
-      → ((i : ℕ) (v : WordEntry) → Stands WordEntry (take count ws) i v → Alike text v w → ⊥)
-      → (x : tree.Name) → Means (fields_of text t) (names_of text ws count) (word_of text w) x → ⊥
+      ((i : ℕ) (f : FieldLine) → Stands FieldLine (ls) i f → Alike text f.name w → ⊥)
+      → ((i : ℕ) (v : WordEntry) → Stands WordEntry ws i v → Alike text v w → ⊥)
+      → (x : tree.Name) → Means (fields_in text ls) (names_of text ws) (word_of text w) x → ⊥
   no_name nf np _ (a_field {v = v} st e) =
-      let s = map_stands (field_of text) (take t.field_count t.fields) st in
+      let s = map_stands (field_of text) (ls) st in
       let named : word_of text s.0.name ≡ v = let q = s.2 in cc in
       nf _ s.0 s.1 (ap spelling named ∙ e)
   no_name nf np _ (a_param st e) =
-      let s = map_stands (word_of text) (take count ws) st in
+      let s = map_stands (word_of text) ws st in
       np _ s.0 s.1 (ap spelling s.2 ∙ e)
 
   pub unknown_settled :
-      ((i : ℕ) (f : FieldLine) → Stands FieldLine (take t.field_count t.fields) i f → Alike text f.name w → ⊥)
-      → ((i : ℕ) (v : WordEntry) → Stands WordEntry (take count ws) i v → Alike text v w → ⊥)
-      → (rs : List Rule) → First (UseFault (fields_of text t) rs (names_of text ws count) (term (word_of text w))) 8 w.place
+      ((i : ℕ) (f : FieldLine) → Stands FieldLine (ls) i f → Alike text f.name w → ⊥)
+      → ((i : ℕ) (v : WordEntry) → Stands WordEntry ws i v → Alike text v w → ⊥)
+      → (rs : List Rule) → First (UseFault (fields_in text ls) rs (names_of text ws) (term (word_of text w))) 8 w.place
   unknown_settled nf np rs = record { fault = unknown_name (no_name nf np); least = only_unknown }
 
 -- Calls
@@ -87,25 +86,29 @@ each_from (item r e) here = (_, here, r)
 each_from (item r e) (there s) = let h = each_from e s in (h.0, there h.1, h.2)
 
 module _ (text : List ℕ) (ls : List RuleLine) (w : WordEntry) (n : ℕ) where
+  -- a line has as many parameters as its rule
+  as_long : {qs : List Word} (l : RuleLine) → params_of text l ≡ qs → length l.params.items ≡ length qs
+  as_long l e = sym (length-map l.params.items (word_of text)) ∙ ap length e
+
   -- a rule that may be called has a line of that name
   line_called :
       {rs : List Rule} {k : ℕ} {qs : List Word}
       → Heads text ls rs → Calls rs (word_of text w) k qs
-      → (l : RuleLine) × Stands RuleLine ls k l × Alike text l.name w × (l.param_count ≡ length qs)
+      → (l : RuleLine) × Stands RuleLine ls k l × Alike text l.name w × (length l.params.items ≡ length qs)
   line_called hs (the_rule st e) =
-      let h = each_from hs st in (h.0, h.1, ap spelling h.2.1 ∙ e, h.2.2)
+      let h = each_from hs st in (h.0, h.1, ap spelling h.2.1 ∙ e, as_long h.0 h.2.2)
 
   -- a line of that name is a rule that may be called
   called_line :
       {rs : List Rule} (k : ℕ) (l : RuleLine)
       → Heads text ls rs → Stands RuleLine ls k l → Alike text l.name w
-      → (qs : List Word) × Calls rs (word_of text w) k qs × (l.param_count ≡ length qs) × (length qs ≤ 4)
+      → (qs : List Word) × Calls rs (word_of text w) k qs × (length l.params.items ≡ length qs) × (length qs ≤ 4)
   called_line k l hs st e = let h = each_to hs st in go h.0 h.1 h.2
     where
       go :
           {rs : List Rule} (r : Rule) → Stands Rule rs k r → IsHead text l r
-          → (qs : List Word) × Calls rs (word_of text w) k qs × (l.param_count ≡ length qs) × (length qs ≤ 4)
-      go (rule_line p v qs f) s h = (qs, the_rule s (sym (ap spelling h.1) ∙ e), h.2, h.4)
+          → (qs : List Word) × Calls rs (word_of text w) k qs × (length l.params.items ≡ length qs) × (length qs ≤ 4)
+      go (rule_line p v qs f) s h = (qs, the_rule s (sym (ap spelling h.1) ∙ e), as_long l h.2, h.3)
 
   pub no_rule_settled :
       ((i : ℕ) (l : RuleLine) → Stands RuleLine ls i l → Alike text l.name w → ⊥)
@@ -122,13 +125,13 @@ module _ (text : List ℕ) (ls : List RuleLine) (w : WordEntry) (n : ℕ) where
       least m q (wrong_terms c h) = inr (refl, omega arith)
 
   pub wrong_terms_settled :
-      SomeOf (λ (l : RuleLine). Alike text l.name w × (l.param_count ≡ n → ⊥)) ls
+      SomeOf (λ (l : RuleLine). Alike text l.name w × (length l.params.items ≡ n → ⊥)) ls
       → (fs : List Field) (rs : List Rule) (ps : List Word) → Heads text ls rs
       → First (UseFault fs rs ps (call (word_of text w) n)) 9 w.place
   wrong_terms_settled some fs rs ps hs =
       record { fault = wrong_terms called.1 (λ e. some.3.1 (called.2 ∙ e)); least = least }
     where
-      called : (qs : List Word) × Calls rs (word_of text w) some.0 qs × (some.1.param_count ≡ length qs) × (length qs ≤ 4)
+      called : (qs : List Word) × Calls rs (word_of text w) some.0 qs × (length some.1.params.items ≡ length qs) × (length qs ≤ 4)
       called = called_line some.0 some.1 hs some.2 some.3.0
 
       least : (m q : ℕ) → UseFault fs rs ps (call (word_of text w) n) m q → NoLater 9 w.place m q
@@ -137,12 +140,12 @@ module _ (text : List ℕ) (ls : List RuleLine) (w : WordEntry) (n : ℕ) where
 
   pub call_settled :
       (k : ℕ) → ((l : RuleLine) × Stands RuleLine ls k l × Alike text l.name w)
-      → (SomeOf (λ (l : RuleLine). Alike text l.name w × (l.param_count ≡ n → ⊥)) ls → ⊥)
+      → (SomeOf (λ (l : RuleLine). Alike text l.name w × (length l.params.items ≡ n → ⊥)) ls → ⊥)
       → CallSettled text ls w n (Ok k)
   call_settled k found none fs rs ps hs =
       let called = called_line k found.0 hs found.1 found.2 in
-      let same : found.0.param_count ≡ n =
-      ⊎_elim (λ e. e) (λ ne. absurd (none (k, found.0, found.1, (found.2, ne)))) (same_number found.0.param_count n) in
+      let same : length found.0.params.items ≡ n =
+      ⊎_elim (λ e. e) (λ ne. absurd (none (k, found.0, found.1, (found.2, ne)))) (same_number (length found.0.params.items) n) in
       (faultless, (called.0, called.1, sym called.2 ∙ same, omega (arith, called.2, called.3, same)))
     where
       faultless : (m q : ℕ) → UseFault fs rs ps (call (word_of text w) n) m q → ⊥
@@ -172,23 +175,33 @@ pub first_like :
     → ((m q : ℕ) → F m q → G m q) → ((m q : ℕ) → G m q → F m q) → First F n p → First G n p
 first_like to from f = record { fault = to _ _ f.fault; least = λ m q g. f.least m q (from m q g) }
 
-module _ (text : List ℕ) (t : Table) (ws : List WordEntry) (count : ℕ) (w : WordEntry) where
-  pub term_refused :
-      (x : TermEntry) (f : Fault) → term_uses (term_of text x) ≡ term (word_of text w) ∷ []
-      → NameSettled text t ws count w (Err f) → TermSettled text t ws count x (Err f)
-  term_refused x f e h rs =
-      subst (λ us. First (UsesFault (fields_of text t) rs (names_of text ws count) us) (number f.refusal) f.place) (sym e)
-      (first_like one_to one_from (h rs))
+-- what is settled of a value is settled of what `map` makes of it
+pub settles_mapped :
+    {A B : Type 0} (F G : ℕ → ℕ → Type 0) (P : A → Type 0) (Q : B → Type 0)
+    (f : A → B) (r : Result A Fault) (q : Result B Fault) → MatchResult r (λ x. q ≡ Ok (f x)) (λ e. q ≡ Err e)
+    → ((n p : ℕ) → F n p → G n p) → ((n p : ℕ) → G n p → F n p) → ((x : A) → P x → Q (f x))
+    → Settles F P r → Settles G Q q
+settles_mapped F G P Q f (Ok x) q m to from is h =
+    subst (Settles G Q) (sym m) (λ n p g. h.0 n p (from n p g), is x h.1)
+settles_mapped F G P Q f (Err e) q m to from is h = subst (Settles G Q) (sym m) (first_like to from h)
 
-  pub term_named :
-      (x : TermEntry) (b : Name) (y : SheetTerm) → term_uses (term_of text x) ≡ term (word_of text w) ∷ []
-      → (Means (fields_of text t) (names_of text ws count) (word_of text w) (number_name b)
-      → TermIs (fields_of text t) (names_of text ws count) (term_of text x) (number_term y))
-      → NameSettled text t ws count w (Ok b) → TermSettled text t ws count x (Ok y)
-  term_named x b y e is h rs = (
-    λ n p g. (h rs).0 n p (one_from n p (subst (λ us. UsesFault (fields_of text t) rs (names_of text ws count) us n p) e g)),
-    is (h rs).1,
-  )
+module _ (text : List ℕ) (ls : List FieldLine) (ws : List WordEntry) (w : WordEntry) where
+  -- a term with that name comes to what its name comes to, in a term
+  pub term_mapped :
+      (x y : TermEntry) (f : Name → SheetTerm) → x ≡ y → term_uses (term_of text y) ≡ term (word_of text w) ∷ []
+      → ((b : Name) → Means (fields_in text ls) (names_of text ws) (word_of text w) (number_name b)
+      → TermIs (fields_in text ls) (names_of text ws) (term_of text y) (number_term (f b)))
+      → (r : Result Name Fault) (q : Result SheetTerm Fault) → MatchResult r (λ b. q ≡ Ok (f b)) (λ e. q ≡ Err e)
+      → NameSettled text ls ws w r → TermSettled text ls ws x q
+  term_mapped x y f same e is r q mapped h rs =
+      subst
+      (λ z. Settles (UsesFault (fields_in text ls) rs (names_of text ws) (term_uses (term_of text z)))
+      (λ v. TermIs (fields_in text ls) (names_of text ws) (term_of text z) (number_term v)) q)
+      (sym same)
+      (subst
+      (λ us. Settles (UsesFault (fields_in text ls) rs (names_of text ws) us)
+      (λ v. TermIs (fields_in text ls) (names_of text ws) (term_of text y) (number_term v)) q)
+      (sym e) (settles_mapped _ _ _ _ f r q mapped one_to one_from is (h rs)))
 
 pub no_uses : {fs : List Field} {rs : List Rule} {ps : List Word} (n p : ℕ) → UsesFault fs rs ps [] n p → ⊥
 no_uses n p x = let m = x.1 in elim m [ ]

@@ -1,5 +1,5 @@
 -- Lists: what stands where, and what is in a list.
-use Rattle.std.proofs.Common.{ℕ, zero, suc, ◌<◌, ◌⊎◌, List, [], ◌∷◌, ◌++◌, map, length, take, inl, inr, ⊎_elim, arith}
+use Rattle.std.proofs.Common.{◌≡◌, ℕ, zero, suc, ◌<◌, ◌⊎◌, List, [], ◌∷◌, ◌++◌, map, length, take, refl, inl, inr, ⊎_elim, arith}
 use Rattle.grammar.specs.Syntax.{Word, Formula, Rule, rule_line}
 use Rattle.names.specs.Lists.{Stands, here, there, In, this, that}
 use Rattle.names.specs.Faults.{all_names}
@@ -29,6 +29,11 @@ stands_take (suc l) (there s) h = there (stands_take l s (omega arith))
 pub stands_length : {A : Type 0} {xs : List A} {i : ℕ} {x : A} → Stands A xs i x → i < length xs
 stands_length here = omega arith
 stands_length (there s) = let h = stands_length s in omega arith
+
+-- one item stands at a place
+pub stands_once : {A : Type 0} {xs : List A} {i : ℕ} {a b : A} → Stands A xs i a → Stands A xs i b → a ≡ b
+stands_once here here = refl
+stands_once (there s) (there t) = stands_once s t
 
 -- what follows the front xs stands at its length
 pub stands_after : {A : Type 0} (xs : List A) {y : A} (ys : List A) → Stands A (xs ++ (y ∷ ys)) (length xs) y

@@ -1,6 +1,7 @@
 -- What is settled of an entry, from what is settled of its parts.
-use Rattle.std.proofs.Common.{◌≡◌, ℕ, ◌<◌, ◌≤◌, List, [], ◌∷◌, map, length, take, Ok, Err, sym, ◌∙◌, subst, arith}
-use Rattle.std.proofs.lemmas.List.{take_all}
+use Rattle.std.proofs.Common.{◌≡◌, ℕ, ◌<◌, ◌≤◌, List, [], ◌∷◌, map, length, take, Option, Ok, Err, Result, MatchResult, sym, ◌∙◌, subst, arith}
+use Rattle.std.proofs.lemmas.List.{take_all, length-take-le}
+use Rattle.formula.specs.Trees as tree
 use Rattle.formula.specs.declared.Comparison.{Comparison}
 use Rattle.formula.specs.declared.Join.{Join}
 use Rattle.refusal.specs.declared.Fault.{Fault}
@@ -9,43 +10,48 @@ use Rattle.grammar.specs.declared.table.Word.{Word as WordEntry}
 use Rattle.grammar.specs.declared.table.Term.{Term as TermEntry}
 use Rattle.grammar.specs.declared.table.Weights.{Weights as WeightsEntry}
 use Rattle.grammar.specs.declared.table.Node.TheVariants.{Compared, Called, Negated, Picked, Joined}
-use Rattle.grammar.specs.declared.table.Table.{Table}
+use Rattle.grammar.specs.declared.table.FieldLine.{FieldLine}
+use Rattle.grammar.specs.declared.table.RuleLine.{RuleLine}
 use Rattle.grammar.specs.Syntax.{Word, Term, Field, Rule}
-use Rattle.grammar.specs.Tables.{word_of, term_of, fields_of, Rising}
+use Rattle.grammar.specs.Tables.{word_of, term_of, Rising}
 use Rattle.sheet.specs.declared.node.Name.{Name}
 use Rattle.sheet.specs.declared.node.Term.{Term as SheetTerm}
+use Rattle.sheet.specs.declared.node.Node.{Node}
 use Rattle.sheet.specs.declared.node.Node.TheVariants.{Compare, Call, Not, Pick, Join as JoinNode}
+use Rattle.sheet.specs.Table.{term_of as number_term}
+use Rattle.names.specs.Lists.{Each}
+use Rattle.names.specs.Names.{TermIs}
 use Rattle.names.specs.Faults.{term, call, term_uses, terms_uses, weight_uses, UseFault, First}
-use Rattle.names.specs.Looking.{names_of, use_place, UsesFault, an_entry_compared, an_entry_called, an_entry_negated, an_entry_picked, an_entry_joined, numbered_compared, numbered_called, numbered_negated, numbered_picked, numbered_joined, NameSettled, CallSettled, TermSettled, TermsSettled, WeightsSettled, EntrySettled}
-use Rattle.names.proofs.Numbering.{one_to, one_from, first_like, no_uses}
+use Rattle.names.specs.Looking.{names_of, fields_in, Padded, use_place, UsesFault, Settles, Numbered, an_entry_compared, an_entry_called, an_entry_negated, an_entry_picked, an_entry_joined, numbered_compared, numbered_called, numbered_negated, numbered_picked, numbered_joined, NameSettled, CallSettled, TermSettled, TermsSettled, WeightsSettled, EntrySettled}
+use Rattle.names.proofs.Numbering.{one_to, one_from, first_like, settles_mapped, no_uses}
 use Rattle.names.proofs.Ordered.{first_left, first_right, none_both, uses_right}
 
-module _ (text : List ℕ) (t : Table) (ws : List WordEntry) (count below : ℕ) where
+module _ (text : List ℕ) (ls : List FieldLine) (ks : List RuleLine) (ws : List WordEntry) where
   abbrev Fs : List Field
-  Fs = fields_of text t
+  Fs = fields_in text ls
 
   abbrev Ps : List Word
-  Ps = names_of text ws count
+  Ps = names_of text ws
 
   -- Comparisons
 
   module _ (c : Comparison) (x y : TermEntry) where
-    pub left_refused : (f : Fault) → TermSettled text t ws count x (Err f) → EntrySettled text t ws count below (Compared c x y) (Err f)
+    pub left_refused : (f : Fault) → TermSettled text ls ws x (Err f) → EntrySettled text ls ks ws (Compared c x y) (Err f)
     left_refused f h rs _ hs (an_entry_compared {x = a} {y = b} e d) up =
         first_left (term_uses a) (term_uses b) up
         (subst (λ z. First (UsesFault Fs rs Ps (term_uses z)) (number f.refusal) f.place) e (h rs))
 
     pub right_refused :
-        (u : SheetTerm) (f : Fault) → TermSettled text t ws count x (Ok u) → TermSettled text t ws count y (Err f)
-        → EntrySettled text t ws count below (Compared c x y) (Err f)
+        (u : SheetTerm) (f : Fault) → TermSettled text ls ws x (Ok u) → TermSettled text ls ws y (Err f)
+        → EntrySettled text ls ks ws (Compared c x y) (Err f)
     right_refused u f g h rs _ hs (an_entry_compared {x = a} {y = b} e d) up =
         first_right (term_uses a) (term_uses b)
         (subst (λ z. (m q : ℕ) → UsesFault Fs rs Ps (term_uses z) m q → ⊥) e (g rs).0)
         (subst (λ z. First (UsesFault Fs rs Ps (term_uses z)) (number f.refusal) f.place) d (h rs))
 
     pub compared_settled :
-        (u v : SheetTerm) → TermSettled text t ws count x (Ok u) → TermSettled text t ws count y (Ok v)
-        → EntrySettled text t ws count below (Compared c x y) (Ok (Compare u c v))
+        (u v : SheetTerm) → TermSettled text ls ws x (Ok u) → TermSettled text ls ws y (Ok v)
+        → EntrySettled text ls ks ws (Compared c x y) (Ok (Compare u c v))
     compared_settled u v g h rs _ hs (an_entry_compared {x = a} {y = b} e d) up = (
       none_both (term_uses a) (term_uses b)
           (subst (λ z. (m q : ℕ) → UsesFault Fs rs Ps (term_uses z) m q → ⊥) e (g rs).0)
@@ -57,7 +63,7 @@ module _ (text : List ℕ) (t : Table) (ws : List WordEntry) (count below : ℕ)
 
   module _ (w : WordEntry) (n : ℕ) (ts : List TermEntry) where
     pub call_refused :
-        (f : Fault) → CallSettled text (take below t.rules) w n (Err f) → EntrySettled text t ws count below (Called w n ts) (Err f)
+        (f : Fault) → CallSettled text ks w n (Err f) → EntrySettled text ls ks ws (Called w n ts) (Err f)
     call_refused f h rs _ hs (an_entry_called {w = v} {xs = xs} ew en et) up =
         first_left (call v (length xs) ∷ []) (terms_uses xs) up
         (subst (λ k. First (UsesFault Fs rs Ps (call v k ∷ [])) (number f.refusal) f.place) en
@@ -65,7 +71,7 @@ module _ (text : List ℕ) (t : Table) (ws : List WordEntry) (count below : ℕ)
         (first_like one_to one_from (h Fs rs Ps hs))))
 
     pub many_terms :
-        (k : ℕ) (f : Fault) → CallSettled text (take below t.rules) w n (Ok k) → 4 < n → EntrySettled text t ws count below (Called w n ts) (Err f)
+        (k : ℕ) (f : Fault) → CallSettled text ks w n (Ok k) → 4 < n → EntrySettled text ls ks ws (Called w n ts) (Err f)
     many_terms k f h gt rs _ hs is up = absurd (omega (arith, (h Fs rs Ps hs).1.3))
 
     -- the terms that are kept are all terms
@@ -81,8 +87,8 @@ module _ (text : List ℕ) (t : Table) (ws : List WordEntry) (count below : ℕ)
         (subst (λ z. (a q : ℕ) → UsesFault Fs rs Ps (call z n ∷ []) a q → ⊥) ew (λ a q f. none a q (one_from a q f)))
 
     pub terms_refused :
-        (k : ℕ) (f : Fault) → CallSettled text (take below t.rules) w n (Ok k) → TermsSettled text t ws count ts n (Err f)
-        → EntrySettled text t ws count below (Called w n ts) (Err f)
+        (k : ℕ) (f : Fault) → CallSettled text ks w n (Ok k) → TermsSettled text ls ws (take n ts) (Err f)
+        → EntrySettled text ls ks ws (Called w n ts) (Err f)
     terms_refused k f h g rs _ hs (an_entry_called {w = v} {xs = xs} ew en et) up =
         let called = h Fs rs Ps hs in
         let same = all_kept xs called.1.3 en et in
@@ -91,41 +97,41 @@ module _ (text : List ℕ) (t : Table) (ws : List WordEntry) (count below : ℕ)
         (g rs (subst (λ z. Rising (map use_place (terms_uses z))) (sym same) (uses_right (call v (length xs) ∷ []) (terms_uses xs) up))))
 
     pub called_settled :
-        (k : ℕ) (ys : List SheetTerm) → CallSettled text (take below t.rules) w n (Ok k) → TermsSettled text t ws count ts n (Ok ys)
-        → EntrySettled text t ws count below (Called w n ts) (Ok (Call k n ys))
-    called_settled k ys h g rs _ hs (an_entry_called {w = v} {xs = xs} ew en et) up =
+        (k : ℕ) (ys : List SheetTerm) → n ≤ length ts → CallSettled text ks w n (Ok k) → TermsSettled text ls ws (take n ts) (Ok ys)
+        → EntrySettled text ls ks ws (Called w n ts) (Ok (Call k n ys))
+    called_settled k ys le h g rs _ hs (an_entry_called {w = v} {xs = xs} ew en et) up =
         let called = h Fs rs Ps hs in
         let same = all_kept xs called.1.3 en et in
-        let terms = g rs (subst (λ z. Rising (map use_place (terms_uses z))) (sym same) (uses_right (call v (length xs) ∷ []) (terms_uses xs) up)) in (
+        let terms = g rs (subst (λ z. Rising (map use_place (terms_uses z))) (sym same) (uses_right (call v (length xs) ∷ []) (terms_uses xs) up)) in
+        let kept =
+        subst (λ m. Each Term tree.Term (TermIs Fs Ps) (map (term_of text) (take n ts)) (map number_term (take m ys)) × Padded m ys)
+        (length-take-le n ts le) terms.1 in (
           none_both (call v (length xs) ∷ []) (terms_uses xs) (call_faultless ew en called.0)
               (subst (λ z. (a q : ℕ) → UsesFault Fs rs Ps (terms_uses z) a q → ⊥) same terms.0),
-          numbered_called called.1.1 called.1.2 terms.1.0 terms.1.1,
+          numbered_called called.1.1 called.1.2 kept.0 kept.1,
         )
 
   -- `not`, `pick` and joins
 
-  pub negated_settled : (a : ℕ) → EntrySettled text t ws count below (Negated a) (Ok (Not a))
+  pub negated_settled : (a : ℕ) → EntrySettled text ls ks ws (Negated a) (Ok (Not a))
   negated_settled a rs _ hs an_entry_negated up = (no_uses, numbered_negated)
 
   module _ (w : WordEntry) (a : ℕ) where
-    pub pick_refused : (f : Fault) → NameSettled text t ws count w (Err f) → EntrySettled text t ws count below (Picked w a) (Err f)
-    pick_refused f h rs _ hs (an_entry_picked e) up =
-        subst (λ z. First (UsesFault Fs rs Ps (term z ∷ [])) (number f.refusal) f.place) e (first_like one_to one_from (h rs))
+    pub picked_mapped :
+        (r : Result Name Fault) (q : Result Node Fault) → MatchResult r (λ b. q ≡ Ok (Pick b a)) (λ e. q ≡ Err e)
+        → NameSettled text ls ws w r → EntrySettled text ls ks ws (Picked w a) q
+    picked_mapped r q mapped h rs _ hs (an_entry_picked e) up =
+        subst (λ z. Settles (UsesFault Fs rs Ps (term z ∷ [])) (Numbered text Fs rs Ps (Picked w a)) q) e
+        (settles_mapped _ _ _ _ (λ b. Pick b a) r q mapped one_to one_from (λ b x. numbered_picked x) (h rs))
 
-    pub picked_settled : (b : Name) → NameSettled text t ws count w (Ok b) → EntrySettled text t ws count below (Picked w a) (Ok (Pick b a))
-    picked_settled b h rs _ hs (an_entry_picked e) up = (
-      subst (λ z. (m q : ℕ) → UsesFault Fs rs Ps (term z ∷ []) m q → ⊥) e (λ m q f. (h rs).0 m q (one_from m q f)),
-      numbered_picked (h rs).1,
-    )
-
-  module _ (j : Join) (v : WeightsEntry) (a b : ℕ) where
-    pub weights_refused : (f : Fault) → WeightsSettled v (Err f) → EntrySettled text t ws count below (Joined j v a b) (Err f)
+  module _ (j : Join) (v : Option WeightsEntry) (a b : ℕ) where
+    pub weights_refused : (f : Fault) → WeightsSettled v (Err f) → EntrySettled text ls ks ws (Joined j v a b) (Err f)
     weights_refused f h rs _ hs (an_entry_joined e) up =
         subst (λ z. First (UsesFault Fs rs Ps (weight_uses z)) (number f.refusal) f.place) e
         (h Fs rs Ps (subst (λ z. Rising (map use_place (weight_uses z))) (sym e) up))
 
     pub joined_settled :
-        (y : ℕ × ℕ) → WeightsSettled v (Ok y) → EntrySettled text t ws count below (Joined j v a b) (Ok (JoinNode j y.0 y.1 a b))
+        (y : ℕ × ℕ) → WeightsSettled v (Ok y) → EntrySettled text ls ks ws (Joined j v a b) (Ok (JoinNode j y.0 y.1 a b))
     joined_settled y h rs _ hs (an_entry_joined e) up =
         let g = h Fs rs Ps (subst (λ z. Rising (map use_place (weight_uses z))) (sym e) up) in
         (subst (λ z. (m q : ℕ) → UsesFault Fs rs Ps (weight_uses z) m q → ⊥) e g.0, numbered_joined g.1.0 g.1.1)

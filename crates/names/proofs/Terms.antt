@@ -9,15 +9,12 @@ use Rattle.names.specs.Looking.{UsesFault, use_place}
 use Rattle.names.proofs.Numbering.{no_uses}
 use Rattle.names.proofs.Ordered.{map_append, first_left, first_right, none_both, uses_right}
 
--- the first n items: those before i, the item i, and others
+-- a list: the items before i, the item i, and others
 pub take_split :
-    {A : Type 0} (xs : List A) (n i : ℕ) (d : A)
-    → i < n → i < length xs → (rest : List A) × (take n xs ≡ take i xs ++ (get_or xs i d ∷ rest))
-take_split [] n i d lt len = absurd (omega arith)
-take_split (x ∷ xs) zero i d lt len = absurd (omega arith)
-take_split (x ∷ xs) (suc n) zero d lt len = (take n xs, refl)
-take_split (x ∷ xs) (suc n) (suc i) d lt len =
-    let r = take_split xs n i d (omega arith) (omega arith) in (r.0, ap (λ z. x ∷ z) r.1)
+    {A : Type 0} (xs : List A) (i : ℕ) (d : A) → i < length xs → (rest : List A) × (xs ≡ take i xs ++ (get_or xs i d ∷ rest))
+take_split [] i d len = absurd (omega arith)
+take_split (x ∷ xs) zero d len = (xs, refl)
+take_split (x ∷ xs) (suc i) d len = let r = take_split xs i d (omega arith) in (r.0, ap (λ z. x ∷ z) r.1)
 
 pub each_push :
     {A B : Type 0} {R : A → B → Type 0} {xs : List A} {ys : List B} {a : A} {b : B}

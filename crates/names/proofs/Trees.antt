@@ -1,5 +1,5 @@
 -- A line whose entries are numbered holds the tree that its formula comes to.
-use Rattle.std.proofs.Common.{◌≡◌, ℕ, suc, ◌+◌, ◌<◌, ◌≤◌, cond, List, map, length, take, sym, refl, ap, ◌∙◌, subst, arith}
+use Rattle.std.proofs.Common.{◌≡◌, Option, ℕ, suc, ◌+◌, ◌<◌, ◌≤◌, cond, List, map, length, take, sym, refl, ap, ◌∙◌, subst, arith}
 use Rattle.std.proofs.lemmas.List.{take_all}
 use Rattle.formula.specs.declared.Comparison.{Comparison}
 use Rattle.formula.specs.declared.Join.{Join}
@@ -99,7 +99,7 @@ module _ (text : List ℕ) (raw : List NodeEntry) (nodes : List Node) (fs : List
       (_, table.a_pick e refl (omega arith) h.1, picked_is (subst (λ z. Means fs ps z (table.name_of b)) p x) h.2)
 
   of_joined :
-      {i a b : ℕ} {j : Join} {v : WeightsEntry} (m : Node) → table.node_at nodes i ≡ m → Numbered text fs rs ps (Joined j v a b) m
+      {i a b : ℕ} {j : Join} {v : Option WeightsEntry} (m : Node) → table.node_at nodes i ≡ m → Numbered text fs rs ps (Joined j v a b) m
       → (w : Weights) (f g : Formula) → weights_of v ≡ w → a < i → b < i → Is f a → Is g b → Is (joined j w f g) i
   of_joined {j = j} _ e (numbered_joined {x = x} {y = y} l r) w f g p la lb h k =
       let left : left_weight w ≡ x = ap left_weight (sym p) ∙ l in

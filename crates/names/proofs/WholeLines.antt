@@ -1,21 +1,23 @@
 -- What is settled of a line, from its names and its entries.
-use Rattle.std.proofs.Common.{◌≡◌, ℕ, ◌+◌, ◌<◌, ◌⊎◌, List, [], ◌∷◌, ◌++◌, map, length, take, Some, None, Option, sym, refl, subst, inl, inr, ⊎_elim, arith}
+use Rattle.std.proofs.Common.{◌≡◌, ℕ, ◌+◌, ◌<◌, ◌⊎◌, List, [], ◌∷◌, ◌++◌, map, length, take, Ok, Err, Result, sym, refl, subst, inl, inr, ⊎_elim, arith}
 use Rattle.std.proofs.lemmas.List.{take_more}
 use Rattle.refusal.specs.declared.Fault.{Fault}
 use Rattle.grammar.specs.declared.table.Word.{Word as WordEntry}
-use Rattle.grammar.specs.declared.table.Table.{Table}
+use Rattle.grammar.specs.declared.table.FieldLine.{FieldLine}
+use Rattle.grammar.specs.declared.table.RuleLine.{RuleLine}
+use Rattle.grammar.specs.declared.table.MarkLine.{MarkLine}
+use Rattle.grammar.specs.declared.table.Node.{Node as NodeEntry}
 use Rattle.grammar.specs.Syntax.{Word, Formula, Field, Rule, rule_line, mark_line}
-use Rattle.grammar.specs.Tables.{place_of, formula_places, fields_of, Over, Rising}
+use Rattle.grammar.specs.Tables.{word_of, params_of, place_of, formula_places, Over, Rising}
 use Rattle.sheet.specs.declared.node.Node.{Node}
 use Rattle.names.specs.Lists.{In, this, that}
 use Rattle.names.specs.Faults.{FormulaFault, RuleFault, rule_taken, param_taken, rule_formula, many_rules, rule_passes, MarkFault, mark_formula, mark_passes, sizes, First}
-use Rattle.names.specs.Looking.{names_of, Heads, NamesFault, NamesSettled, EntriesSettled, EntriesNumbered, RuleSettled, MarkSettled, Best, rule_at}
+use Rattle.names.specs.Looking.{names_of, fields_in, Heads, NamesFault, NamesSettled, EntriesSettled, EntriesNumbered, RuleSettled, MarkSettled, RulesSettled, Settles, Best, no_rule_line, rule_at}
 use Rattle.names.proofs.Search.{stands_in}
 use Rattle.names.proofs.Places.{in_map}
-use Rattle.names.proofs.Lookups.{no_rule_line}
 use Rattle.names.proofs.Ordered.{rising_left, rising_right, rising_across}
 use Rattle.names.proofs.Terms.{each_push}
-use Rattle.names.proofs.Runs.{best_like}
+use Rattle.names.proofs.Runs.{settles_like}
 use Rattle.names.proofs.Parts.{part_at, are_parts, to_formula, of_formula, uses_are_places}
 use Rattle.names.proofs.InOrder.{formula_fault_in}
 
@@ -59,58 +61,100 @@ module _ (fs : List Field) (above : List Rule) (p : ℕ) (w : Word) (ps : List W
               (rule_from m r x);
         }
 
-    pub formula_best :
-        (r : Option Fault) → ((n q : ℕ) → NamesFault fs above w ps n q → ⊥)
-        → Best (FormulaFault fs (above ++ (R ∷ [])) ps f) r → Best (RuleFault fs above R) r
-    formula_best r none b =
-        best_like r (λ n q x. rule_formula x) (λ n q x. ⊎_elim (λ y. absurd (none n q y)) (λ y. y) (rule_from n q x)) b
+    pub formula_settled :
+        {P Q : Type 0} (r : Result (Unit {0}) Fault) → ((n q : ℕ) → NamesFault fs above w ps n q → ⊥) → (P → Q)
+        → Settles (FormulaFault fs (above ++ (R ∷ [])) ps f) (λ _. P) r → Settles (RuleFault fs above R) (λ _. Q) r
+    formula_settled r none also b =
+        settles_like r (λ n q x. rule_formula x) (λ n q x. ⊎_elim (λ y. absurd (none n q y)) (λ y. y) (rule_from n q x)) also b
 
-module _ (text : List ℕ) (t : Table) (l : ℕ) (nodes : List Node) where
+module _ (text : List ℕ) (ls : List FieldLine) (ks : List RuleLine) (raw : List NodeEntry) (l : ℕ) (nodes : List Node) where
+  abbrev Fs : List Field
+  Fs = fields_in text ls
+
+  abbrev Line : RuleLine
+  Line = rule_at ks l
+
+  -- what is settled of the names that are read, as they are written
+  names_written :
+      (r : Result (Unit {0}) Fault) → NamesSettled text ls (take l ks) Line.name Line.params.items r
+      → (above : List Rule) (w : Word) (ps : List Word) → Heads text (take l ks) above
+      → word_of text Line.name ≡ w → params_of text Line ≡ ps → Rising (place_of w ∷ map place_of ps)
+      → Best (NamesFault Fs above w ps) r
+  names_written r h above w ps hs ew ep up =
+      subst (λ z. Best (NamesFault Fs above z ps) r) ew
+      (subst (λ z. Best (NamesFault Fs above (word_of text Line.name) z) r) ep
+      (h above hs
+      (subst (λ z. Rising (place_of z ∷ map place_of (names_of text Line.params.items))) (sym ew)
+      (subst (λ z. Rising (place_of w ∷ map place_of z)) (sym ep) up))))
+
   pub rule_refused :
-      (f : Fault) → NamesSettled text t l (rule_at t.rules l) (Some f) → RuleSettled text t l nodes (Some f)
+      (f : Fault) → NamesSettled text ls (take l ks) Line.name Line.params.items (Err f) → RuleSettled text ls ks raw l nodes (Err f)
   rule_refused f names above (rule_line p w ps g) hs is up =
-      let h = is.head in (
-        names_first (fields_of text t) above p w ps g is.few_rules is.within up
-            (names above w ps hs h.1 h.2 h.3 h.4 (rising_left (place_of w ∷ map place_of ps) (formula_places g) up.1)),
-        λ no. let z : ◌≡◌ {A = ℕ} 0 1 = cc in absurd (omega arith),
-      )
+      let h = is.head in
+      names_first Fs above p w ps g is.few_rules is.within up
+      (names_written (Err f) names above w ps hs h.1 h.2 (rising_left (place_of w ∷ map place_of ps) (formula_places g) up.1))
 
   pub rule_settled :
-      (r : Option Fault) → l < length t.rules
-      → NamesSettled text t l (rule_at t.rules l) None
-      → EntriesSettled text t (rule_at t.rules l).params (rule_at t.rules l).param_count (l + 1)
-      (rule_at t.rules l).start ((rule_at t.rules l).body + 1) nodes r
-      → RuleSettled text t l nodes r
-  rule_settled r len names entries above (rule_line p w ps g) hs is up =
+      (u : Unit {0}) (r : Result (Unit {0}) Fault) → l < length ks
+      → NamesSettled text ls (take l ks) Line.name Line.params.items (Ok u)
+      → EntriesSettled text ls (take (l + 1) ks) Line.params.items raw Line.start (Line.body + 1) nodes r
+      → RuleSettled text ls ks raw l nodes r
+  rule_settled u r len names entries above (rule_line p w ps g) hs is up =
       let h = is.head in
-      let line = rule_at t.rules l in
-      let none = names above w ps hs h.1 h.2 h.3 h.4 (rising_left (place_of w ∷ map place_of ps) (formula_places g) up.1) in
+      let none = names_written (Ok u) names above w ps hs h.1 h.2 (rising_left (place_of w ∷ map place_of ps) (formula_places g) up.1) in
       let rs = above ++ (rule_line p w ps g ∷ []) in
-      let heads : Heads text (take (l + 1) t.rules) rs =
-      subst (λ z. Heads text z rs) (sym (take_more t.rules l no_rule_line len)) (each_push hs h) in
+      let heads : Heads text (take (l + 1) ks) rs =
+      subst (λ z. Heads text z rs) (sym (take_more ks l no_rule_line len)) (each_push hs h) in
       let rising = subst Rising (sym (uses_are_places g)) (rising_right (place_of w ∷ map place_of ps) (formula_places g) up.1) in
       let d = is.entries in
-      let settled = entries rs (part_at text t.nodes d) heads (are_parts text t.nodes d rising) in
-      let Ps : List Word = names_of text line.params line.param_count in (
-        formula_best (fields_of text t) above p w ps g is.few_rules is.within r none
-            (subst (λ z. Best (FormulaFault (fields_of text t) rs z g) r) h.3
-            (best_like r (to_formula text t.nodes d (fields_of text t) rs Ps) (of_formula text t.nodes d (fields_of text t) rs Ps) settled.0)),
-        λ no. subst (λ z. EntriesNumbered text t rs z nodes line.start (line.body + 1)) h.3 (settled.1 no),
-      )
+      let settled = entries rs (part_at text raw d) heads (are_parts text raw d rising) in
+      let Ps : List Word = names_of text Line.params.items in
+      formula_settled Fs above p w ps g is.few_rules is.within r none (λ x. x)
+      (subst (λ z. Settles (FormulaFault Fs rs z g) (λ _. EntriesNumbered text ls raw rs z nodes Line.start (Line.body + 1)) r) h.2
+      (settles_like r (to_formula text raw d Fs rs Ps) (of_formula text raw d Fs rs Ps) (λ x. x) settled))
 
-  pub mark_settled :
-      (ws : List WordEntry) (r : Option Fault)
-      → EntriesSettled text t ws 0 t.rule_count t.mark.start (t.mark.body + 1) nodes r
-      → MarkSettled text t nodes r
-  mark_settled ws r entries rs p f hs d within up =
-      let rising = subst Rising (sym (uses_are_places f)) up in
-      let settled = entries rs (part_at text t.nodes d) hs (are_parts text t.nodes d rising) in (
-        best_like r
-            (λ n q x. mark_formula (to_formula text t.nodes d (fields_of text t) rs [] n q x))
-            (λ n q x. of_formula text t.nodes d (fields_of text t) rs [] n q (from n q x)) settled.0,
-        λ no. settled.1 no,
-      )
-    where
-      from : (n q : ℕ) → MarkFault (fields_of text t) rs (mark_line p f) n q → FormulaFault (fields_of text t) rs [] f n q
-      from n q (mark_formula h) = h
-      from n q (mark_passes h) = absurd (within h)
+pub mark_settled :
+    (text : List ℕ) (ls : List FieldLine) (ks : List RuleLine) (raw : List NodeEntry) (mark : MarkLine) (nodes : List Node)
+    (r : Result (Unit {0}) Fault)
+    → EntriesSettled text ls ks [] raw mark.start (mark.body + 1) nodes r → MarkSettled text ls ks raw mark nodes r
+mark_settled text ls ks raw mark nodes r entries rs p f hs d within up =
+    let Ms = fields_in text ls in
+    let rising = subst Rising (sym (uses_are_places f)) up in
+    settles_like r
+    (λ n q x. mark_formula (to_formula text raw d Ms rs [] n q x))
+    (λ n q x. of_formula text raw d Ms rs [] n q (from n q x)) (λ x. x)
+    (entries rs (part_at text raw d) hs (are_parts text raw d rising))
+  where
+    from : (n q : ℕ) → MarkFault (fields_in text ls) rs (mark_line p f) n q → FormulaFault (fields_in text ls) rs [] f n q
+    from n q (mark_formula h) = h
+    from n q (mark_passes h) = absurd (within h)
+
+-- what is settled of what equal lines say is the same
+pub names_like :
+    {text text' : List ℕ} {ls ls' : List FieldLine} {ks ks' : List RuleLine} {ws ws' : List WordEntry}
+    (own : WordEntry) (r : Result (Unit {0}) Fault)
+    → text ≡ text' → ls ≡ ls' → ks ≡ ks' → ws ≡ ws' → NamesSettled text ls ks own ws r → NamesSettled text' ls' ks' own ws' r
+names_like {text} {text'} {ls} {ls'} {ks} {ks'} {ws} {ws'} own r a b c d h =
+    subst (λ z. NamesSettled z ls' ks' own ws' r) a
+    (subst (λ z. NamesSettled text z ks' own ws' r) b
+    (subst (λ z. NamesSettled text ls z own ws' r) c (subst (λ z. NamesSettled text ls ks own z r) d h)))
+
+pub entries_like :
+    {text text' : List ℕ} {ls ls' : List FieldLine} {ks ks' : List RuleLine} {ws ws' : List WordEntry} {raw raw' : List NodeEntry}
+    (start end : ℕ) (nodes : List Node) (r : Result (Unit {0}) Fault)
+    → text ≡ text' → ls ≡ ls' → ks ≡ ks' → ws ≡ ws' → raw ≡ raw'
+    → EntriesSettled text ls ks ws raw start end nodes r → EntriesSettled text' ls' ks' ws' raw' start end nodes r
+entries_like {text} {text'} {ls} {ls'} {ks} {ks'} {ws} {ws'} {raw} {raw'} start end nodes r a b c d e h =
+    subst (λ z. EntriesSettled z ls' ks' ws' raw' start end nodes r) a
+    (subst (λ z. EntriesSettled text z ks' ws' raw' start end nodes r) b
+    (subst (λ z. EntriesSettled text ls z ws' raw' start end nodes r) c
+    (subst (λ z. EntriesSettled text ls ks z raw' start end nodes r) d
+    (subst (λ z. EntriesSettled text ls ks ws z start end nodes r) e h))))
+
+pub rules_like :
+    {text : List ℕ} {ls ls' : List FieldLine} {ks ks' : List RuleLine} {raw raw' : List NodeEntry}
+    (nodes : List Node) (r : Result (Unit {0}) Fault)
+    → ls ≡ ls' → ks ≡ ks' → raw ≡ raw' → RulesSettled text ls ks raw nodes r → RulesSettled text ls' ks' raw' nodes r
+rules_like {text} {ls} {ls'} {ks} {ks'} {raw} {raw'} nodes r a b c h =
+    subst (λ z. RulesSettled text z ks' raw' nodes r) a
+    (subst (λ z. RulesSettled text ls z raw' nodes r) b (subst (λ z. RulesSettled text ls ks z nodes r) c h))

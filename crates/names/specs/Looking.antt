@@ -1,5 +1,5 @@
 -- Words of this crate's private contracts: what was found among some lines, and the first fault so far.
-use Rattle.std.specs.Prelude.{◌≡◌, ℕ, ◌+◌, ◌<◌, ◌≤◌, Bool, true, false, ◌⊎◌, List, [], ◌∷◌, ◌++◌, map, length, take, Some, None, Ok, Err, Option, Result, slice_index_or}
+use Rattle.std.specs.Prelude.{◌≡◌, ℕ, ◌+◌, ◌<◌, ◌≤◌, ◌⊎◌, List, [], ◌∷◌, ◌++◌, map, length, take, Some, None, Ok, Err, Option, Result, slice_index_or}
 use Rattle.formula.specs.declared.Comparison.{Comparison}
 use Rattle.formula.specs.declared.Join.{Join}
 use Rattle.formula.specs.Trees as tree
@@ -14,7 +14,7 @@ use Rattle.grammar.specs.declared.table.FieldLine.{FieldLine}
 use Rattle.grammar.specs.declared.table.RuleLine.{RuleLine}
 use Rattle.grammar.specs.declared.table.Table.{Table}
 use Rattle.grammar.specs.Syntax.{Word, num, Term, Weights, Formula, compared, called, negated, picked, joined, Field, Rule, rule_line, mark_line, Sheet, sheet}
-use Rattle.grammar.specs.Tables.{word_of, term_of, node_at, weights_of, field_of, params_of, place_of, formula_places, fields_places, rules_places, fields_of, rules_of, Entries, Rules, Holds, WellRead, Over, Rising}
+use Rattle.grammar.specs.Tables.{word_of, term_of, node_at, weights_of, field_of, params_of, place_of, formula_places, fields_places, rules_places, rules_of, Entries, Rules, Holds, WellRead, Over, Rising}
 use Rattle.sheet.specs.declared.node.Name.{Name}
 use Rattle.sheet.specs.declared.node.Term.{Term as SheetTerm}
 use Rattle.sheet.specs.declared.node.Term.TheVariants.{Number as SheetNumber}
@@ -26,12 +26,7 @@ use Rattle.grammar.specs.declared.table.MarkLine.{MarkLine}
 use Rattle.sheet.specs.Table.{range_at, line_at, name_of as number_name, term_of as number_term, node_at as number_node}
 use Rattle.names.specs.Lists.{Stands, In, Each}
 use Rattle.names.specs.Names.{spelling, Means, Calls, TermIs, left_weight, right_weight}
-use Rattle.names.specs.Faults.{Use, term, call, weight, term_uses, terms_uses, weight_uses, UseFault, field_name, rule_name, all_names, Taken, sizes, FieldFault, RuleFault, MarkFault, Faulty, First, NoLater}
-
--- a test that says whether P holds
-abbrev pub Tells : Type 0 → Bool → Type 0
-Tells P true = P
-Tells P false = P → ⊥
+use Rattle.names.specs.Faults.{Use, term, call, weight, term_uses, terms_uses, weight_uses, UseFault, field_name, rule_name, all_names, Taken, sizes, FieldFault, RuleFault, MarkFault, Faulty, First}
 
 -- the place of an item with the property P, or none where no item has it
 abbrev pub Found : {A : Type 0} → (A → Type 0) → List A → Option ℕ → Type 0
@@ -57,15 +52,18 @@ field_at fields i =
       high = record { value = 0; place = 0 };
     })
 
--- the first n of some names
-abbrev pub names_of : List ℕ → List WordEntry → ℕ → List Word
-names_of text ws n = map (word_of text) (take n ws)
+-- the words of some names
+abbrev pub names_of : List ℕ → List WordEntry → List Word
+names_of text ws = map (word_of text) ws
+
+-- the fields of some lines
+abbrev pub fields_in : List ℕ → List FieldLine → List Field
+fields_in text ls = map (field_of text) ls
 
 -- the line l is that of the rule, its formula aside, and has at most 4 parameters
 abbrev pub IsHead : List ℕ → RuleLine → Rule → Type 0
 IsHead text l (rule_line p w ps f) =
-    (l.first ≡ p) × (word_of text l.name ≡ w) × (l.param_count ≡ length ps) × (params_of text l ≡ ps)
-    × (length ps ≤ 4)
+    (l.first ≡ p) × (word_of text l.name ≡ w) × (params_of text l ≡ ps) × (length ps ≤ 4)
 
 -- the lines are those of the rules, their formulas aside
 abbrev pub Heads : List ℕ → List RuleLine → List Rule → Type 0
@@ -108,7 +106,7 @@ pub data IsEntry (text : List ℕ) : NodeEntry → Formula → Type 0 where
       → word_of text v ≡ w
       → IsEntry text (Picked v a) (picked w f)
   an_entry_joined :
-      {j : Join} {v : WeightsEntry} {w : Weights} {a b : ℕ} {f g : Formula}
+      {j : Join} {v : Option WeightsEntry} {w : Weights} {a b : ℕ} {f g : Formula}
       → weights_of v ≡ w
       → IsEntry text (Joined j v a b) (joined j w f g)
 
@@ -136,42 +134,29 @@ pub data Numbered (text : List ℕ) (fs : List Field) (rs : List Rule) (ps : Lis
       → Means fs ps (word_of text v) (number_name b)
       → Numbered text fs rs ps (Picked v a) (Pick b a)
   numbered_joined :
-      {j : Join} {v : WeightsEntry} {a b x y : ℕ}
+      {j : Join} {v : Option WeightsEntry} {a b x y : ℕ}
       → left_weight (weights_of v) ≡ x
       → right_weight (weights_of v) ≡ y
       → Numbered text fs rs ps (Joined j v a b) (JoinNode j x y a b)
-
--- the first of the faults F, or none where there is none
-abbrev pub Best : (ℕ → ℕ → Type 0) → Option Fault → Type 0
-Best F None = (n p : ℕ) → F n p → ⊥
-Best F (Some f) = First F (number f.refusal) f.place
 
 -- the first of the faults F, or where there is none a value with the property P
 abbrev pub Settles : {A : Type 0} → (ℕ → ℕ → Type 0) → (A → Type 0) → Result A Fault → Type 0
 Settles F P (Ok x) = ((n p : ℕ) → F n p → ⊥) × P x
 Settles F P (Err f) = First F (number f.refusal) f.place
 
--- f comes no later than g
-abbrev pub Earlier : Fault → Fault → Type 0
-Earlier f g = NoLater (number f.refusal) f.place (number g.refusal) g.place
-
--- r is the one of f and g that comes first
-abbrev pub EarlierOf : Fault → Fault → Fault → Type 0
-EarlierOf f g r = ((r ≡ f) × Earlier f g) ⊎ ((r ≡ g) × Earlier g f)
-
--- r is the first of the faults so far, if any, and f
-abbrev pub Sooner : Option Fault → Fault → Fault → Type 0
-Sooner None f r = r ≡ f
-Sooner (Some g) f r = EarlierOf g f r
+-- the first of the faults F, or none where there is none
+abbrev pub Best : (ℕ → ℕ → Type 0) → Result (Unit {0}) Fault → Type 0
+Best F (Ok _) = (n p : ℕ) → F n p → ⊥
+Best F (Err f) = First F (number f.refusal) f.place
 
 -- What is settled of a name, a call, a term and an entry: the first fault, or what it comes to
 
--- a name in a line with the first count of the parameters ws
-abbrev pub NameSettled : List ℕ → Table → List WordEntry → (count : ℕ) → WordEntry → Result Name Fault → Type 0
-NameSettled text t ws count w r =
+-- a name in a line with the fields of the lines ls and the parameters ws
+abbrev pub NameSettled : List ℕ → List FieldLine → List WordEntry → WordEntry → Result Name Fault → Type 0
+NameSettled text ls ws w r =
     (rs : List Rule)
-    → Settles (UseFault (fields_of text t) rs (names_of text ws count) (term (word_of text w)))
-    (λ x. Means (fields_of text t) (names_of text ws count) (word_of text w) (number_name x)) r
+    → Settles (UseFault (fields_in text ls) rs (names_of text ws) (term (word_of text w)))
+    (λ x. Means (fields_in text ls) (names_of text ws) (word_of text w) (number_name x)) r
 
 -- a call of the name w with n terms, where the rule lines ls may be called
 abbrev pub CallSettled : List ℕ → List RuleLine → WordEntry → (n : ℕ) → Result ℕ Fault → Type 0
@@ -181,41 +166,41 @@ CallSettled text ls w n r =
     → Settles (UseFault fs rs ps (call (word_of text w) n))
     (λ k. (qs : List Word) × Calls rs (word_of text w) k qs × (length qs ≡ n) × (n ≤ 4)) r
 
--- a term in a line with the first count of the parameters ws
-abbrev pub TermSettled : List ℕ → Table → List WordEntry → (count : ℕ) → TermEntry → Result SheetTerm Fault → Type 0
-TermSettled text t ws count x r =
+-- a term in a line with the fields of the lines ls and the parameters ws
+abbrev pub TermSettled : List ℕ → List FieldLine → List WordEntry → TermEntry → Result SheetTerm Fault → Type 0
+TermSettled text ls ws x r =
     (rs : List Rule)
-    → Settles (UsesFault (fields_of text t) rs (names_of text ws count) (term_uses (term_of text x)))
-    (λ y. TermIs (fields_of text t) (names_of text ws count) (term_of text x) (number_term y)) r
+    → Settles (UsesFault (fields_in text ls) rs (names_of text ws) (term_uses (term_of text x)))
+    (λ y. TermIs (fields_in text ls) (names_of text ws) (term_of text x) (number_term y)) r
 
--- the first n of four terms xs, in a line with the first count of the parameters ws
+-- at most four terms xs, in a line with the fields of the lines ls and the parameters ws
 abbrev pub TermsSettled :
-    List ℕ → Table → List WordEntry → (count : ℕ) → List TermEntry → (n : ℕ) → Result (List SheetTerm) Fault → Type 0
-TermsSettled text t ws count xs n r =
+    List ℕ → List FieldLine → List WordEntry → List TermEntry → Result (List SheetTerm) Fault → Type 0
+TermsSettled text ls ws xs r =
     (rs : List Rule)
-    → Rising (map use_place (terms_uses (map (term_of text) (take n xs))))
-    → Settles (UsesFault (fields_of text t) rs (names_of text ws count) (terms_uses (map (term_of text) (take n xs))))
-    (λ ys. Each Term tree.Term (TermIs (fields_of text t) (names_of text ws count)) (map (term_of text) (take n xs))
-    (map number_term (take n ys)) × Padded n ys) r
+    → Rising (map use_place (terms_uses (map (term_of text) xs)))
+    → Settles (UsesFault (fields_in text ls) rs (names_of text ws) (terms_uses (map (term_of text) xs)))
+    (λ ys. Each Term tree.Term (TermIs (fields_in text ls) (names_of text ws)) (map (term_of text) xs)
+    (map number_term (take (length xs) ys)) × Padded (length xs) ys) r
 
 -- the weights of a join
-abbrev pub WeightsSettled : WeightsEntry → Result (ℕ × ℕ) Fault → Type 0
+abbrev pub WeightsSettled : Option WeightsEntry → Result (ℕ × ℕ) Fault → Type 0
 WeightsSettled v r =
     (fs : List Field) (rs : List Rule) (ps : List Word)
     → Rising (map use_place (weight_uses (weights_of v)))
     → Settles (UsesFault fs rs ps (weight_uses (weights_of v)))
     (λ y. (left_weight (weights_of v) ≡ y.0) × (right_weight (weights_of v) ≡ y.1)) r
 
--- an entry in a line with the first count of the parameters ws, which may call the rules below that number
+-- an entry in a line with the fields of the lines ls and the parameters ws, which may call the rules of the lines ks
 abbrev pub EntrySettled :
-    List ℕ → Table → List WordEntry → (count below : ℕ) → NodeEntry → Result Node Fault → Type 0
-EntrySettled text t ws count below x r =
+    List ℕ → List FieldLine → List RuleLine → List WordEntry → NodeEntry → Result Node Fault → Type 0
+EntrySettled text ls ks ws x r =
     (rs : List Rule) (f : Formula)
-    → Heads text (take below t.rules) rs
+    → Heads text ks rs
     → IsEntry text x f
     → Rising (map use_place (own_uses f))
-    → Settles (UsesFault (fields_of text t) rs (names_of text ws count) (own_uses f))
-    (Numbered text (fields_of text t) rs (names_of text ws count) x) r
+    → Settles (UsesFault (fields_in text ls) rs (names_of text ws) (own_uses f))
+    (Numbered text (fields_in text ls) rs (names_of text ws) x) r
 
 -- a fault of what some entry from start to before end uses itself, where part gives the formula of each entry
 abbrev pub EntriesFault :
@@ -230,14 +215,15 @@ AreEntries text nodes part start end =
 
 -- the entries from start to before end: their first fault, or none and the entries by their numbers
 abbrev pub EntriesSettled :
-    List ℕ → Table → List WordEntry → (count below start end : ℕ) → List Node → Option Fault → Type 0
-EntriesSettled text t ws count below start end nodes r =
+    List ℕ → List FieldLine → List RuleLine → List WordEntry → List NodeEntry → (start end : ℕ) → List Node
+    → Result (Unit {0}) Fault → Type 0
+EntriesSettled text ls ks ws raw start end nodes r =
     (rs : List Rule) (part : ℕ → Formula)
-    → Heads text (take below t.rules) rs
-    → AreEntries text t.nodes part start end
-    → Best (EntriesFault (fields_of text t) rs (names_of text ws count) part start end) r
-    × (r ≡ None → (k : ℕ) → start ≤ k → k < end
-    → Numbered text (fields_of text t) rs (names_of text ws count) (node_at t.nodes k) (number_node nodes k))
+    → Heads text ks rs
+    → AreEntries text raw part start end
+    → Settles (EntriesFault (fields_in text ls) rs (names_of text ws) part start end)
+    (λ _. (k : ℕ) → start ≤ k → k < end
+    → Numbered text (fields_in text ls) rs (names_of text ws) (node_at raw k) (number_node nodes k)) r
 
 -- two tables agree outside the entries from start to before end
 abbrev pub SameOutside : List Node → List Node → (start end : ℕ) → Type 0
@@ -249,18 +235,19 @@ SameOutside before after start end =
 
 -- a rule line declares the name w: as its own, or as a parameter's
 abbrev pub Declares : List ℕ → WordEntry → RuleLine → Type 0
-Declares text w l = Alike text l.name w ⊎ SomeOf (λ v. Alike text v w) (take l.param_count l.params)
+Declares text w l = Alike text l.name w ⊎ SomeOf (λ v. Alike text v w) l.params.items
 
 -- a name that stands for none
 abbrev pub no_word : WordEntry
 no_word = record { place = 0; length = 0 }
 
--- the name w is that of a field, of a rule line above, of the line's own rule or of a parameter before the number k
-abbrev pub ParamTaken : List ℕ → Table → (l : ℕ) → RuleLine → (k : ℕ) → WordEntry → Type 0
-ParamTaken text t l line k w =
-    SomeOf (λ f. Alike text f.name w) (take t.field_count t.fields)
-    ⊎ (SomeOf (λ r. Alike text r.name w) (take l t.rules)
-    ⊎ (Alike text line.name w ⊎ SomeOf (λ v. Alike text v w) (take k line.params)))
+-- the name w is that of a field, of a rule line above, of the line's own rule or of a parameter before it
+abbrev pub ParamTaken :
+    List ℕ → List FieldLine → List RuleLine → (own : WordEntry) → List WordEntry → WordEntry → Type 0
+ParamTaken text ls ks own before w =
+    SomeOf (λ f. Alike text f.name w) ls
+    ⊎ (SomeOf (λ r. Alike text r.name w) ks
+    ⊎ (Alike text own w ⊎ SomeOf (λ v. Alike text v w) before))
 
 -- a name that the rule line declares, its own w or one of its parameters ps, is taken
 abbrev pub NamesFault : List Field → (above : List Rule) → Word → List Word → (number place : ℕ) → Type 0
@@ -269,37 +256,37 @@ NamesFault fs above w ps n p =
     ⊎ ((i : ℕ) × (v : Word) × Stands Word ps i v
     × (Taken (map field_name fs ++ (map rule_name above ++ (w ∷ take i ps))) v × (n ≡ 7) × (p ≡ place_of v)))
 
--- the field line i: its first fault
-abbrev pub FieldSettled : List ℕ → List FieldLine → (i : ℕ) → Option Fault → Type 0
-FieldSettled text fields i r =
-    (field_at fields i).name.place < (field_at fields i).low.place
-    → Best (FieldFault (map (field_of text) (take i fields)) (field_of text (field_at fields i))) r
+-- a field line below the lines above: its first fault
+abbrev pub FieldSettled : List ℕ → (above : List FieldLine) → FieldLine → Result (Unit {0}) Fault → Type 0
+FieldSettled text above l r =
+    l.name.place < l.low.place → Best (FieldFault (fields_in text above) (field_of text l)) r
 
--- the names that the rule line of number l declares: the first that is taken
-abbrev pub NamesSettled : List ℕ → Table → (l : ℕ) → RuleLine → Option Fault → Type 0
-NamesSettled text t l line r =
-    (above : List Rule) (w : Word) (ps : List Word)
-    → Heads text (take l t.rules) above
-    → word_of text line.name ≡ w
-    → line.param_count ≡ length ps
-    → params_of text line ≡ ps
-    → length ps ≤ 4
-    → Rising (place_of w ∷ map place_of ps)
-    → Best (NamesFault (fields_of text t) above w ps) r
+-- the names that a rule line declares below the field lines ls and the rule lines ks, its own and its parameters ws:
+-- the first that is taken
+abbrev pub NamesSettled :
+    List ℕ → List FieldLine → List RuleLine → (own : WordEntry) → List WordEntry → Result (Unit {0}) Fault → Type 0
+NamesSettled text ls ks own ws r =
+    (above : List Rule)
+    → Heads text ks above
+    → Rising (place_of (word_of text own) ∷ map place_of (names_of text ws))
+    → Best (NamesFault (fields_in text ls) above (word_of text own) (names_of text ws)) r
 
 -- Whole lines
 
+-- a rule line that stands for none
+abbrev pub no_rule_line : RuleLine
+no_rule_line =
+    record { first = 0; name = record { place = 0; length = 0 }; params = record { items = [] }; start = 0; body = 0 }
+
 -- the rule line of that number
 abbrev pub rule_at : List RuleLine → ℕ → RuleLine
-rule_at rules l =
-    slice_index_or rules l
-    (record { first = 0; name = record { place = 0; length = 0 }; params = []; param_count = 0; start = 0; body = 0 })
+rule_at rules l = slice_index_or rules l no_rule_line
 
 -- the entries from start to before end are numbered, where the rules rs may be called and ps are the parameters
 abbrev pub EntriesNumbered :
-    List ℕ → Table → List Rule → List Word → List Node → (start end : ℕ) → Type 0
-EntriesNumbered text t rs ps nodes start end =
-    (k : ℕ) → start ≤ k → k < end → Numbered text (fields_of text t) rs ps (node_at t.nodes k) (number_node nodes k)
+    List ℕ → List FieldLine → List NodeEntry → List Rule → List Word → List Node → (start end : ℕ) → Type 0
+EntriesNumbered text ls raw rs ps nodes start end =
+    (k : ℕ) → start ≤ k → k < end → Numbered text (fields_in text ls) rs ps (node_at raw k) (number_node nodes k)
 
 -- the parameters of a rule
 abbrev pub rule_params : Rule → List Word
@@ -320,27 +307,29 @@ pub record IsRuleLine (text : List ℕ) (nodes : List NodeEntry) (line : RuleLin
   pub few_rules : length above < 16
   pub within : Over (sizes above) (rule_params r) (rule_body r) → ⊥
 
--- the rule line of number l: its first fault, or none and its entries by their numbers
-abbrev pub RuleSettled : List ℕ → Table → (l : ℕ) → List Node → Option Fault → Type 0
-RuleSettled text t l nodes r =
+-- the rule line of number l, below the field lines ls: its first fault, or none and its entries by their numbers
+abbrev pub RuleSettled :
+    List ℕ → List FieldLine → List RuleLine → List NodeEntry → (l : ℕ) → List Node → Result (Unit {0}) Fault → Type 0
+RuleSettled text ls ks raw l nodes r =
     (above : List Rule) (x : Rule)
-    → Heads text (take l t.rules) above
-    → IsRuleLine text t.nodes (rule_at t.rules l) above x
+    → Heads text (take l ks) above
+    → IsRuleLine text raw (rule_at ks l) above x
     → Rising (rule_places x)
-    → Best (RuleFault (fields_of text t) above x) r
-    × (r ≡ None → EntriesNumbered text t (above ++ (x ∷ [])) (rule_params x) nodes
-    (rule_at t.rules l).start ((rule_at t.rules l).body + 1))
+    → Settles (RuleFault (fields_in text ls) above x)
+    (λ _. EntriesNumbered text ls raw (above ++ (x ∷ [])) (rule_params x) nodes
+    (rule_at ks l).start ((rule_at ks l).body + 1)) r
 
 -- the mark line: its first fault, or none and its entries by their numbers
-abbrev pub MarkSettled : List ℕ → Table → List Node → Option Fault → Type 0
-MarkSettled text t nodes r =
+abbrev pub MarkSettled :
+    List ℕ → List FieldLine → List RuleLine → List NodeEntry → MarkLine → List Node → Result (Unit {0}) Fault → Type 0
+MarkSettled text ls ks raw mark nodes r =
     (rs : List Rule) (p : ℕ) (f : Formula)
-    → Heads text (take t.rule_count t.rules) rs
-    → Entries text t.nodes t.mark.start t.mark.body f
+    → Heads text ks rs
+    → Entries text raw mark.start mark.body f
     → (Over (sizes rs) [] f → ⊥)
     → Rising (formula_places f)
-    → Best (MarkFault (fields_of text t) rs (mark_line p f)) r
-    × (r ≡ None → EntriesNumbered text t rs [] nodes t.mark.start (t.mark.body + 1))
+    → Settles (MarkFault (fields_in text ls) rs (mark_line p f))
+    (λ _. EntriesNumbered text ls raw rs [] nodes mark.start (mark.body + 1)) r
 
 -- All lines
 
@@ -353,59 +342,54 @@ abbrev pub RulesFault : List Field → List Rule → (number place : ℕ) → Ty
 RulesFault fs rs n p = (i : ℕ) × (x : Rule) × Stands Rule rs i x × RuleFault fs (take i rs) x n p
 
 -- the field lines: their first fault
-abbrev pub FieldsSettled : List ℕ → Table → Option Fault → Type 0
-FieldsSettled text t r =
-    (fs : List Field) (zs : List ℕ)
-    → fields_of text t ≡ fs
-    → t.field_count ≡ length fs
-    → length fs ≤ 8
-    → Rising (fields_places fs zs)
-    → Best (FieldsFault fs) r
+abbrev pub FieldsSettled : List ℕ → List FieldLine → Result (Unit {0}) Fault → Type 0
+FieldsSettled text ls r =
+    (zs : List ℕ) → Rising (fields_places (fields_in text ls) zs) → Best (FieldsFault (fields_in text ls)) r
 
 -- the entries of the first n rule lines are numbered
-abbrev pub RulesNumbered : List ℕ → Table → List Rule → (n : ℕ) → List Node → Type 0
-RulesNumbered text t rs n nodes =
+abbrev pub RulesNumbered :
+    List ℕ → List FieldLine → List RuleLine → List NodeEntry → List Rule → (n : ℕ) → List Node → Type 0
+RulesNumbered text ls ks raw rs n nodes =
     (i : ℕ) (x : Rule) → i < n → Stands Rule rs i x
-    → EntriesNumbered text t (take i rs ++ (x ∷ [])) (rule_params x) nodes
-    (rule_at t.rules i).start ((rule_at t.rules i).body + 1)
+    → EntriesNumbered text ls raw (take i rs ++ (x ∷ [])) (rule_params x) nodes
+    (rule_at ks i).start ((rule_at ks i).body + 1)
 
 -- the rule lines: their first fault, or none and their entries by their numbers
-abbrev pub RulesSettled : List ℕ → Table → List Node → Option Fault → Type 0
-RulesSettled text t nodes r =
+abbrev pub RulesSettled :
+    List ℕ → List FieldLine → List RuleLine → List NodeEntry → List Node → Result (Unit {0}) Fault → Type 0
+RulesSettled text ls ks raw nodes r =
     (rs : List Rule) (e : ℕ) (zs : List ℕ)
-    → Rules text t.nodes 0 (rules_of t) rs e
-    → t.rule_count ≡ length rs
-    → length rs ≤ 16
+    → Rules text raw 0 ks rs e
     → Rising (rules_places rs zs)
-    → Best (RulesFault (fields_of text t) rs) r × (r ≡ None → RulesNumbered text t rs (length rs) nodes)
+    → Settles (RulesFault (fields_in text ls) rs) (λ _. RulesNumbered text ls ks raw rs (length rs) nodes) r
 
 -- every line of the sheet is numbered
 abbrev pub AllNumbered : List ℕ → Table → List Node → Sheet → Type 0
 AllNumbered text t nodes (sheet fs rs (mark_line p f)) =
-    RulesNumbered text t rs (length rs) nodes
-    × EntriesNumbered text t rs [] nodes t.mark.start (t.mark.body + 1)
+    RulesNumbered text t.fields.items (rules_of t) t.nodes.items rs (length rs) nodes
+    × EntriesNumbered text t.fields.items t.nodes.items rs [] nodes t.mark.start (t.mark.body + 1)
 
 -- the lines of the sheet that the table holds: its first fault, or none and all entries by their numbers
-abbrev pub LinesSettled : List ℕ → Table → List Node → Option Fault → Type 0
+abbrev pub LinesSettled : List ℕ → Table → List Node → Result (Unit {0}) Fault → Type 0
 LinesSettled text t nodes r =
     (s : Sheet) → Holds text t s → WellRead s
-    → Best (Faulty s) r × (r ≡ None → (t.over ≡ None) × AllNumbered text t nodes s)
+    → Settles (Faulty s) (λ _. (t.over ≡ None) × AllNumbered text t nodes s) r
 
 -- The parts of a sheet
 
--- the ranges of the first count field lines
-abbrev pub RangesOf : List FieldLine → (count : ℕ) → List Range → Type 0
-RangesOf fields count ranges =
+-- the ranges of the field lines, of which there are at most 8
+abbrev pub RangesOf : List FieldLine → List Range → Type 0
+RangesOf fields ranges =
     (length ranges ≡ 8)
-    × ((i : ℕ) → i < count → i < 8
+    × ((i : ℕ) → i < length fields
     → ((range_at ranges i).low ≡ (field_at fields i).low.value) × ((range_at ranges i).high ≡ (field_at fields i).high.value))
 
--- the lines of the first count rule lines, and then the mark line
-abbrev pub LinesOf : List RuleLine → (count : ℕ) → MarkLine → List Line → Type 0
-LinesOf rules count mark lines =
+-- the lines of the rule lines, of which there are at most 16, and then the mark line
+abbrev pub LinesOf : List RuleLine → MarkLine → List Line → Type 0
+LinesOf rules mark lines =
     (length lines ≡ 17)
-    × ((l : ℕ) → l < count → l < 16
+    × ((l : ℕ) → l < length rules
     → ((line_at lines l).start ≡ (rule_at rules l).start) × ((line_at lines l).body ≡ (rule_at rules l).body)
-    × ((rule_at rules l).param_count ≤ 4 → (line_at lines l).params ≡ (rule_at rules l).param_count))
-    × (count ≤ 16
-    → ((line_at lines count).start ≡ mark.start) × ((line_at lines count).body ≡ mark.body) × ((line_at lines count).params ≡ 0))
+    × ((line_at lines l).params ≡ length (rule_at rules l).params.items))
+    × (((line_at lines (length rules)).start ≡ mark.start) × ((line_at lines (length rules)).body ≡ mark.body)
+    × ((line_at lines (length rules)).params ≡ 0))

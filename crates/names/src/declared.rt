@@ -1,98 +1,57 @@
-// The names that lines declare, and the ranges of fields: whether a name is taken, and the first fault of a line.
-ghost use Rattle.std.specs.Prelude.{◌≡◌, ◌<◌, length, take, slice_index_or};
-ghost use Rattle.names.specs.Looking.{Tells, SomeOf, Declares, ParamTaken, no_word, FieldSettled, NamesSettled};
+// The names that lines declare, and the ranges of fields: the first fault of a line.
+ghost use Rattle.std.specs.Prelude.{◌↔◌, ◌<◌, IsTrue, length};
+ghost use Rattle.names.specs.Looking.{SomeOf, Declares, ParamTaken, FieldSettled, NamesSettled};
 
-use crate::lookup::{alike, find_field, find_param, find_rule};
-use grammar::table::{FieldLine, RuleLine, Table, Word};
-use refusal::{Fault, Refusal};
+use crate::entries::Scope;
+use crate::fault::{taken, wrong_number};
+use crate::lookup::{alike, contains};
+use grammar::table::{FieldLine, RuleLine, Word};
+use refusal::Fault;
 
-// Whether a rule below `below` declares that name, as its own or as a parameter's.
-fn is_declared(text: &[u8], rules: &[RuleLine; 16], below: usize, name: Word) -> bool
-    ensures { Tells (SomeOf (Declares text.now name) (take below rules.now)) result }
+// Whether a rule declares that name, as its own or as a parameter's.
+fn is_declared(text: &[u8], rules: &[RuleLine], name: Word) -> bool
+    ensures { IsTrue result ↔ SomeOf (Declares text.now name) rules.now }
 {
-    let mut i = 0;
-    while i < below && i < 16 {
-        let rule = rules[i];
-        if alike(text, rule.name, name) {
-            return true;
-        }
-        if let Some(_) = find_param(text, &rule.params, rule.param_count, name) {
-            return true;
-        }
-        i += 1;
-    }
-    false
+    rules.iter().any(|rule| alike(text, rule.name, name) || contains(text, &rule.params, name))
 }
 
-// Whether the parameter `k` of the rule line `l` has a name that is taken.
-fn is_param_taken(text: &[u8], table: &Table, l: usize, rule: RuleLine, k: usize) -> bool
-    requires { k < 4 }
-    ensures { Tells (ParamTaken text.now table.now l rule k (slice_index_or rule.params k no_word)) result }
+// Whether a parameter's name is that of a field, of a rule above, of its own rule or of a parameter before it.
+fn is_param_taken(above: Scope, own: Word, before: &[Word], param: Word) -> bool
+    ensures { IsTrue result
+        ↔ ParamTaken above.entry.text.now above.entry.fields.now above.entry.rules.now own before.now param }
 {
-    let param = rule.params[k];
-    if let Some(_) = find_field(text, &table.fields, table.field_count, param) {
-        return true;
-    }
-    if let Some(_) = find_rule(text, &table.rules, l, param) {
-        return true;
-    }
-    if alike(text, rule.name, param) {
-        return true;
-    }
-    if let Some(_) = find_param(text, &rule.params, k, param) {
-        return true;
-    }
-    false
+    contains(above.text, above.fields, param)
+        || contains(above.text, above.rules, param)
+        || alike(above.text, own, param)
+        || contains(above.text, before, param)
 }
 
-// The first fault of the field line `i`.
-pub(crate) fn field_fault(text: &[u8], fields: &[FieldLine; 8], i: usize) -> Option<Fault>
-    requires { i < 8 }
-    ensures settled { FieldSettled text.now fields.now i result }
-    ensures long { length fields.now ≡ 8 }
+// The first fault of a field line below the lines above.
+pub(crate) fn check_field(text: &[u8], above: &[FieldLine], field: FieldLine) -> Result<(), Fault>
+    requires { length above.now < 8 }
+    ensures { FieldSettled text.now above.now field result }
 {
-    let field = fields[i];
-    if let Some(_) = find_field(text, fields, i, field.name) {
-        return Some(Fault {
-            refusal: Refusal::NameTaken,
-            place: field.name.place,
-        });
+    if contains(text, above, field.name) {
+        return Err(taken(field.name));
     }
     if field.high.value < field.low.value {
-        return Some(Fault {
-            refusal: Refusal::WrongNumber,
-            place: field.low.place,
-        });
+        return Err(wrong_number(field.low));
     }
-    None
+    Ok(())
 }
 
-// The first name that the rule line `l` declares and that is taken.
-pub(crate) fn names_fault(text: &[u8], table: &Table, l: usize, rule: RuleLine) -> Option<Fault>
-    ensures { NamesSettled text.now table.now l rule result }
+// The first name that a rule line declares, its own or a parameter's, and that is taken.
+pub(crate) fn check_names(scope: Scope, own: Word) -> Result<(), Fault>
+    ensures { NamesSettled scope.entry.text.now scope.entry.fields.now scope.entry.rules.now own
+        scope.entry.params.now result }
 {
-    if let Some(_) = find_field(text, &table.fields, table.field_count, rule.name) {
-        return Some(Fault {
-            refusal: Refusal::NameTaken,
-            place: rule.name.place,
-        });
+    if contains(scope.text, scope.fields, own) || is_declared(scope.text, scope.rules, own) {
+        return Err(taken(own));
     }
-    if is_declared(text, &table.rules, l, rule.name) {
-        return Some(Fault {
-            refusal: Refusal::NameTaken,
-            place: rule.name.place,
-        });
-    }
-    let mut k = 0;
-    while k < rule.param_count && k < 4 {
-        if is_param_taken(text, table, l, rule, k) {
-            let param = rule.params[k];
-            return Some(Fault {
-                refusal: Refusal::NameTaken,
-                place: param.place,
-            });
+    for (k, param) in scope.params.iter().enumerate() {
+        if is_param_taken(scope, own, &scope.params[..k], *param) {
+            return Err(taken(*param));
         }
-        k += 1;
     }
-    None
+    Ok(())
 }

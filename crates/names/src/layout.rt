@@ -1,60 +1,47 @@
-// The ranges and lines of a sheet, from its tables.
-ghost use Rattle.std.specs.Prelude.{◌≡◌, ◌≤◌};
+// The ranges and lines of a sheet, from its tables. These are no `From`: its types are of other crates. They write by
+// index, since after a zip of `iter_mut` the check knows no element.
+ghost use Rattle.std.specs.Prelude.{◌≤◌, length};
 ghost use Rattle.names.specs.Looking.{RangesOf, LinesOf};
 
 use grammar::table::{FieldLine, MarkLine, RuleLine};
 use sheet::node::{Line, Range};
 
-// The ranges of the first `count` field lines.
-pub(crate) fn ranges_of(fields: &[FieldLine; 8], count: usize) -> [Range; 8]
-    ensures { RangesOf fields.now count result }
+// The ranges of the field lines.
+pub(crate) fn ranges_of(fields: &[FieldLine]) -> [Range; 8]
+    requires { length fields.now ≤ 8 }
+    ensures { RangesOf fields.now result }
 {
     let mut ranges = [Range { low: 0, high: 0 }; 8];
-    let mut i = 0;
-    while i < count && i < 8 {
-        let field = fields[i];
+    for (i, field) in fields.iter().enumerate() {
         ranges[i] = Range {
             low: field.low.value,
             high: field.high.value,
         };
-        i += 1;
     }
     ranges
 }
 
-// A number of parameters, which is at most 4.
-fn few(count: usize) -> u8
-    ensures { count ≤ 4 → result ≡ count }
-{
-    if count < 4 { count as u8 } else { 4 }
-}
-
-// The lines of the first `count` rule lines, and then the mark line.
-pub(crate) fn lines_of(rules: &[RuleLine; 16], count: usize, mark: MarkLine) -> [Line; 17]
-    ensures { LinesOf rules.now count mark result }
+// The lines of the rule lines, and then the mark line.
+pub(crate) fn lines_of(rules: &[RuleLine], mark: MarkLine) -> [Line; 17]
+    requires { length rules.now ≤ 16 }
+    ensures { LinesOf rules.now mark result }
 {
     let mut lines = [Line {
         params: 0,
         start: 0,
         body: 0,
     }; 17];
-    let mut l = 0;
-    while l < count && l < 16 {
-        let rule = rules[l];
-        let params = few(rule.param_count);
+    for (l, rule) in rules.iter().enumerate() {
         lines[l] = Line {
-            params,
+            params: rule.params.len() as u8,
             start: rule.start,
             body: rule.body,
         };
-        l += 1;
     }
-    if count < 17 {
-        lines[count] = Line {
-            params: 0,
-            start: mark.start,
-            body: mark.body,
-        };
-    }
+    lines[rules.len()] = Line {
+        params: 0,
+        start: mark.start,
+        body: mark.body,
+    };
     lines
 }

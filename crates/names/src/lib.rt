@@ -3,6 +3,7 @@
 
 mod declared;
 mod entries;
+mod fault;
 mod layout;
 mod lines;
 mod lookup;

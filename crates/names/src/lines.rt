@@ -1,104 +1,73 @@
 // The lines of a sheet one by one: the first fault of each, and their entries by numbers.
-ghost use Rattle.std.specs.Prelude.{◌≡◌, ◌+◌, ◌<◌, length};
-ghost use Rattle.names.specs.Looking.{RuleSettled, MarkSettled, SameOutside, rule_at, FieldsSettled, RulesSettled, LinesSettled};
+ghost use Rattle.std.specs.Prelude.{◌+◌, ◌<◌, length};
+ghost use Rattle.names.specs.Looking.{RuleSettled, SameOutside, rule_at, FieldsSettled, RulesSettled, LinesSettled};
 
-use crate::declared::{field_fault, names_fault};
-use crate::entries::number_entries;
-use grammar::table::{Table, Word};
+use crate::declared::{check_field, check_names};
+use crate::entries::Scope;
+use grammar::table::{Node as WrittenNode, Table};
 use refusal::{Fault, Refusal};
 use sheet::node::Node;
 
-// Writes the entries of the rule line `l` by their numbers, and answers the first fault of the line.
-fn number_rule(text: &[u8], table: &Table, l: usize, nodes: &mut [Node; 256]) -> Option<Fault>
-    requires { l < 16 }
-    ensures settled { RuleSettled text.now table.now l nodes.new result }
-    ensures outside { SameOutside nodes.old nodes.new
-        (rule_at table.now.rules l).start ((rule_at table.now.rules l).body + 1) }
-    ensures long { length table.now.rules ≡ 16 }
-{
-    let rule = table.rules[l];
-    if let Some(fault) = names_fault(text, table, l, rule) {
-        return Some(fault);
-    }
-    number_entries(
-        text,
-        table,
-        &rule.params,
-        rule.param_count,
-        l + 1,
-        rule.start,
-        rule.body,
-        nodes,
-    )
-}
-
-// Writes the entries of the mark line by their numbers, and answers the first fault of the line.
-fn number_mark(text: &[u8], table: &Table, nodes: &mut [Node; 256]) -> Option<Fault>
-    ensures settled { MarkSettled text.now table.now nodes.new result }
-    ensures outside { SameOutside nodes.old nodes.new
-        table.now.mark.start (table.now.mark.body + 1) }
-{
-    let none = [Word {
-        place: 0,
-        length: 0,
-    }; 4];
-    let mark = table.mark;
-    number_entries(
-        text,
-        table,
-        &none,
-        0,
-        table.rule_count,
-        mark.start,
-        mark.body,
-        nodes,
-    )
-}
-
 // The first fault of the field lines.
-fn fields_fault(text: &[u8], table: &Table) -> Option<Fault>
-    ensures { FieldsSettled text.now table.now result }
+fn check_fields(scope: Scope) -> Result<(), Fault>
+    ensures { FieldsSettled scope.entry.text.now scope.entry.fields.now result }
 {
-    let mut i = 0;
-    while i < table.field_count && i < 8 {
-        if let Some(fault) = field_fault(text, &table.fields, i) {
-            return Some(fault);
-        }
-        i += 1;
+    for (i, field) in scope.fields.iter().enumerate() {
+        check_field(scope.text, &scope.fields[..i], *field)?;
     }
-    None
+    Ok(())
 }
 
-// Writes the entries of the rule lines by their numbers, and answers their first fault.
-fn number_rules(text: &[u8], table: &Table, nodes: &mut [Node; 256]) -> Option<Fault>
-    ensures { RulesSettled text.now table.now nodes.new result }
+// Writes the entries of the rule line `l` by their numbers, or answers the first fault of the line.
+fn number_rule(
+    scope: Scope,
+    l: usize,
+    entries: &[WrittenNode],
+    nodes: &mut [Node; 256],
+) -> Result<(), Fault>
+    requires { l < length scope.rules.now }
+    ensures settled { RuleSettled scope.entry.text.now scope.entry.fields.now scope.entry.rules.now entries.now l
+        nodes.new result }
+    ensures outside { SameOutside nodes.old nodes.new
+        (rule_at scope.entry.rules.now l).start ((rule_at scope.entry.rules.now l).body + 1) }
 {
-    let mut l = 0;
-    while l < table.rule_count && l < 16 {
-        if let Some(fault) = number_rule(text, table, l, nodes) {
-            return Some(fault);
-        }
-        l += 1;
-    }
-    None
+    let rule = &scope.rules[l];
+    check_names(scope.of_line(l, &rule.params), rule.name)?;
+    scope
+        .of_line(l + 1, &rule.params)
+        .number_entries(entries, rule.start, rule.body, nodes)
 }
 
-// Writes all entries by their numbers, and answers the first fault of the sheet. The first line that passes a
+// Writes the entries of the rule lines by their numbers, or answers their first fault.
+fn number_rules(scope: Scope, entries: &[WrittenNode], nodes: &mut [Node; 256]) -> Result<(), Fault>
+    ensures { RulesSettled scope.entry.text.now scope.entry.fields.now scope.entry.rules.now entries.now
+        nodes.new result }
+{
+    // by number: a line may call the rules up to its own, and not every rule of the scope
+    for l in 0..scope.rules.len() {
+        number_rule(scope, l, entries, nodes)?;
+    }
+    Ok(())
+}
+
+// Writes all entries by their numbers, or answers the first fault of the sheet. The first line that passes a
 // count limit is at fault at its first word; every fault of the lines above stands before it.
-pub(crate) fn number_lines(text: &[u8], table: &Table, nodes: &mut [Node; 256]) -> Option<Fault>
+pub(crate) fn number_lines(text: &[u8], table: &Table, nodes: &mut [Node; 256]) -> Result<(), Fault>
     ensures { LinesSettled text.now table.now nodes.new result }
 {
-    if let Some(fault) = fields_fault(text, table) {
-        return Some(fault);
-    }
-    if let Some(fault) = number_rules(text, table, nodes) {
-        return Some(fault);
-    }
+    let scope = Scope {
+        text,
+        fields: &table.fields,
+        rules: &table.rules,
+        params: &[],
+    };
+    check_fields(scope)?;
+    number_rules(scope, &table.nodes, nodes)?;
     if let Some(place) = table.over {
-        return Some(Fault {
+        return Err(Fault {
             refusal: Refusal::TooMany,
             place,
         });
     }
-    number_mark(text, table, nodes)
+    scope.number_entries(&table.nodes, table.mark.start, table.mark.body, nodes)
 }

@@ -14,12 +14,14 @@ const ENOUGH: usize = 32769;
 const ROOM: usize = 32771;
 
 fn main(rt: HostRuntime) -> io::Result<()> {
+    // Each program reads its text by these lines: a function of a library for them would allocate.
     let mut text = vec![in rt.alloc(); 0u8; ENOUGH]?;
     let size = streams::fill(&mut rt.stdin(), &mut text)?;
+    text.truncate(size);
     let mut line = vec![in rt.alloc(); 0u8; ROOM]?;
     let mut out = BufWriter::new(rt.alloc(), rt.stdout())?;
     let mut sheet = Sheet::blank();
-    match names::read(&text[0..size], &mut sheet) {
+    match names::read(&text, &mut sheet) {
         Ok(found) => {
             let made = lines::contents_line(
                 found.fields as u64,
@@ -29,7 +31,7 @@ fn main(rt: HostRuntime) -> io::Result<()> {
             );
             put(made, &line, &mut out)?;
         }
-        Err(fault) => explain(&text[0..size], fault, &mut line, &mut out)?,
+        Err(fault) => explain(&text, fault, &mut line, &mut out)?,
     }
     out.flush()
 }

@@ -1,5 +1,6 @@
 -- What the entries of a sheet's table say of their parts, and how they read.
-use Rattle.std.proofs.Common.{◌≡◌, ℕ, suc, ◌-◌, ◌<◌, ◌≤◌, Bool, true, not, ◌≢◌, List, [], ◌∷◌, map, length, take, Some, None, Option, sym, refl, ap, ◌∙◌, subst, ap₂, subst₂, arith}
+use Rattle.std.proofs.Common.{◌≡◌, ℕ, suc, ◌-◌, ◌<◌, ◌≤◌, Bool, true, false, not, ◌≢◌, List, [], ◌∷◌, map, length, take, Some, None, Option, sym, refl, ap, ◌∙◌, subst, ap₂, subst₂, arith}
+use Rattle.std.specs.Bool.{beq}
 use Rattle.std.proofs.lemmas.Bool.Decides.{nat_tests as tests}
 use Rattle.std.proofs.lemmas.List.{length-map, length-take-le, get_or-take, get_or-map, take-map}
 use Rattle.formula.specs.declared.Comparison.{Comparison}
@@ -76,9 +77,8 @@ module _
   pub numbers_long : length vs ≡ 4
   numbers_long = ap length p ∙ length-map ts (λ t. value m e (term_of t)) ∙ c.long
 
-  pub numbers_count : length (take (k - 0) vs) ≡ (line_at s.lines r).params
-  numbers_count =
-      length-take-le (k - 0) vs (omega (arith, numbers_long, c.few)) ∙ omega (arith, c.count)
+  pub numbers_count : length (take k vs) ≡ (line_at s.lines r).params
+  numbers_count = length-take-le k vs (omega (arith, numbers_long, c.few)) ∙ c.count
 
 -- what stands past the end of the lines
 abbrev no_line : Line
@@ -110,16 +110,28 @@ as_whole s l i w m e n x is o k d =
 -- the numbers that a call passes on
 passed :
     (m e : List ℕ) (k : ℕ) (ts : List Term) (vs : List ℕ) → vs ≡ values m e ts
-    → take (k - 0) vs ≡ map (value m e) (map term_of (take k ts))
+    → take k vs ≡ map (value m e) (map term_of (take k ts))
 passed m e k ts vs p =
-    let z : k - 0 ≡ k = omega arith in
-    ap₂ {C = List ℕ} (λ (x : ℕ) (l : List ℕ). take x l) z p
+    ap (take k) p
     ∙ take-map (λ t. value m e (term_of t)) k ts
     ∙ twice (take k ts)
   where
     twice : (l : List Term) → map (λ t. value m e (term_of t)) l ≡ map (value m e) (map term_of l)
     twice [] = refl
     twice (t ∷ l) = ap {B = List ℕ} (λ z. value m e (term_of t) ∷ z) (twice l)
+
+-- two results that differ, and two that do not
+pub differ : (a b : Bool) → not (beq a b) ≡ true → a ≢ b
+differ true true e p = absurd cc
+differ true false e p = absurd cc
+differ false true e p = absurd cc
+differ false false e p = absurd cc
+
+pub agree : (a b : Bool) → not (beq a b) ≡ false → a ≡ b
+agree true true e = refl
+agree true false e = absurd cc
+agree false true e = absurd cc
+agree false false e = refl
 
 -- the reading of the entry i of the line l, by the kind of entry
 module _
@@ -150,18 +162,18 @@ module _
       }
 
   pub read_called :
-      {r k : ℕ} {ts : List Term} {o : Option Bool} {j : ℕ} (vs : List ℕ)
+      {r k f : ℕ} {ts : List Term} {o : Option Bool} {j : ℕ} (vs : List ℕ)
       → node_at s.nodes i ≡ Call r k ts
-      → n ≢ 0
+      → (1 ≤ n) × (f ≡ n - 1)
       → vs ≡ values m e ts
-      → Read s m (take (k - 0) vs) (line_at s.lines r).body (n - 1) o j
+      → Read s m (take k vs) (line_at s.lines r).body f o j
       → Read s m e i n o j
-  read_called {r} {k} {ts} {o} {j} vs is nz p d =
-      let inner : Reads (rules s) m (map (value m e) (map term_of (take k ts))) (body (rules s) r) (n - 1)
+  read_called {r} {k} {f} {ts} {o} {j} vs is fuel p d =
+      let inner : Reads (rules s) m (map (value m e) (map term_of (take k ts))) (body (rules s) r) f
       (answer o j) =
-      subst₂ (λ (v : List ℕ) (F : tree.Formula). Reads (rules s) m v F (n - 1) (answer o j))
+      subst₂ (λ (v : List ℕ) (F : tree.Formula). Reads (rules s) m v F f (answer o j))
       (passed m e k ts vs p) (rule_body s r (call_kept s l i w is).below) d.reads in
-      let up : suc (n - 1) ≡ n = omega arith in
+      let up : suc f ≡ n = omega (arith, fuel) in
       record {
         reads = as_whole s l i w m e n (Call r k ts) is o j
             (subst (λ (z : ℕ). Reads (rules s) m e (tree.call r (map term_of (take k ts))) z (answer o j)) up

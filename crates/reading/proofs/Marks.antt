@@ -1,12 +1,10 @@
 -- Marks against the fields of a sheet.
-use Rattle.std.proofs.Common.{◌≡◌, ℕ, suc, ◌+◌, ◌-◌, ◌<◌, ◌≤◌, Bool, true, false, not, ◌&&◌, eqb, List, [], ◌∷◌, length, get_or, take, drop, Option, sym, refl, ap, ◌∙◌, subst, ap₂, subst₂, add-one, arith, drop-cons, le-ltb, lt-ltb}
+use Rattle.std.proofs.Common.{◌≡◌, ℕ, suc, ◌+◌, ◌-◌, ◌<◌, ◌≤◌, Bool, true, false, eqb, zero, IsTrue, ◌↔◌, EachIndex, zero-add, map, tests, List, [], ◌∷◌, length, get_or, take, Option, sym, refl, ◌∙◌, subst, subst₂, arith}
 use borrow.Author.Tests.{apart_eqb}
-use Rattle.std.specs.List.{AllByRecursion}
-use Rattle.std.proofs.lemmas.List.{length-map, length-take-le, get_or-take, get_or-map, at_drop_all}
-use Rattle.formula.specs.declared.Comparison.TheVariants.{AtMost, AtLeast}
-use Rattle.formula.specs.Comparing.{holds}
-use Rattle.formula.specs.Trees as tree
-use Rattle.formula.specs.Trees.{range}
+use Rattle.std.specs.Cmp.{both_ways}
+use Rattle.std.proofs.ByRecursion.{All-from_get_or, All-get_or}
+use Rattle.std.proofs.lemmas.Bool.Decides.{nat_tests}
+use Rattle.std.proofs.lemmas.List.{length-map, length-take-le}
 use Rattle.marks.specs.Sets.{Shaped}
 use Rattle.meaning.specs.Terms.{ranges_of, fields_of}
 use Rattle.meaning.specs.Reading.{ranged, calls_made, Verdict, not_allowed, verdict, Checks, out_of_range}
@@ -16,19 +14,57 @@ use Rattle.sheet.specs.declared.node.Range.{Range}
 use Rattle.sheet.specs.declared.table.Sheet.{Sheet}
 use Rattle.sheet.specs.Table.{range_at, line_at}
 use Rattle.sheet.specs.Sheets.{range_of, tree_of}
-use Rattle.reading.specs.Steps.{Says, Small, answer, rules, ranges, Read}
+use Rattle.reading.specs.Steps.{Inside, answer, rules, ranges, Read}
 
 -- what stands past the end of the ranges
 abbrev no_range : Range
 no_range = record { low = 0; high = 0 }
 
-and_false : (b : Bool) → (b && false) ≡ false
-and_false true = refl
-and_false false = refl
+-- numbers that lie in their ranges are ranged, and numbers that are ranged lie in them
+ranged_when :
+    (rs : List Range) (f : ℕ) (m : List ℕ)
+    → ((k : ℕ) → k < length rs → Inside (range_at rs k) (get_or m (f + k) 0))
+    → ranged (map range_of rs) f m ≡ true
+ranged_when [] f m h = refl
+ranged_when (r ∷ rs) f m h =
+    let z : f + 0 ≡ f = omega arith in
+    let first : Inside r (get_or m f 0) = subst (λ i. Inside r (get_or m i 0)) z (h 0 (omega arith)) in
+    let rest : ranged (map range_of rs) (suc f) m ≡ true =
+    ranged_when rs (suc f) m (λ k lt.
+    let e : f + suc k ≡ suc f + k = omega arith in
+    subst (λ i. Inside (range_at rs k) (get_or m i 0)) e (h (suc k) (omega arith))) in
+    grind (arith, nat_tests)
+
+ranged_only :
+    (rs : List Range) (f : ℕ) (m : List ℕ)
+    → ranged (map range_of rs) f m ≡ true
+    → (k : ℕ) → k < length rs → Inside (range_at rs k) (get_or m (f + k) 0)
+ranged_only [] f m h k lt = absurd (omega arith)
+ranged_only (r ∷ rs) f m h zero lt =
+    let inside : Inside r (get_or m f 0) = grind (arith, nat_tests, h) in
+    let e : f ≡ f + 0 = omega arith in
+    subst (λ i. Inside r (get_or m i 0)) e inside
+ranged_only (r ∷ rs) f m h (suc k) lt =
+    let rest : ranged (map range_of rs) (suc f) m ≡ true = grind (arith, nat_tests, h) in
+    let e : suc f + k ≡ f + suc k = omega arith in
+    subst (λ i. Inside (range_at rs k) (get_or m i 0)) e (ranged_only rs (suc f) m rest k (omega arith))
+
+-- a test of each number in its range
+pub ranged_as :
+    (rs : List Range) (m : List ℕ) (b : Bool) → length m ≡ length rs
+    → (IsTrue b ↔ EachIndex m (λ k. Inside (range_at rs k) (get_or m k 0)))
+    → b ≡ ranged (map range_of rs) 0 m
+ranged_as rs m b e h =
+    both_ways b _
+    (λ t. ranged_when rs 0 m (λ k lt. subst (λ i. Inside (range_at rs k) (get_or m i 0)) (sym (zero-add k)) (h.0 t k (omega arith))))
+    (λ t. h.1 (λ k lt. subst (λ i. Inside (range_at rs k) (get_or m i 0)) (zero-add k) (ranged_only rs 0 m t k (omega arith))))
 
 module _ (s : Sheet) where
   few_fields : s.field_count ≤ length s.ranges
   few_fields = omega (arith, s.long, s.some_fields)
+
+  pub ranges_counted : (m : List ℕ) → length m ≡ s.field_count → length m ≡ length (take s.field_count s.ranges)
+  ranges_counted m p = p ∙ sym (length-take-le s.field_count s.ranges few_fields)
 
   pub fields_counted : fields_of (tree_of s) ≡ s.field_count
   unfolding tree_of
@@ -43,92 +79,22 @@ module _ (s : Sheet) where
   -- the shape of a mark
 
   pub shaped_when :
-      (m : List ℕ) (b : Bool) → length m ≡ s.field_count → Says b (AllByRecursion Small m)
-      → Says b (Shaped (fields_of (tree_of s)) m)
-  shaped_when m true p a = (p ∙ sym fields_counted, a)
-  shaped_when m false p n = λ x. n x.1
+      (m : List ℕ) (b : Bool) → length m ≡ s.field_count
+      → (IsTrue b ↔ EachIndex m (λ k. get_or m k 0 < 1024))
+      → (IsTrue b ↔ Shaped (fields_of (tree_of s)) m)
+  shaped_when m b p h = (
+    λ t. (p ∙ sym fields_counted, All-from_get_or (λ v. v < 1024) m 0 (h.0 t)),
+    λ x. h.1 (λ k lt. All-get_or (λ v. v < 1024) m k 0 lt x.1),
+  )
 
   pub shaped_else :
       (m : List ℕ) → (length m ≡ s.field_count → ⊥)
-      → Says (eqb (length m) s.field_count) (Shaped (fields_of (tree_of s)) m)
+      → (IsTrue (eqb (length m) s.field_count) ↔ Shaped (fields_of (tree_of s)) m)
   shaped_else m n =
-      subst (λ (b : Bool). Says b (Shaped (fields_of (tree_of s)) m))
-      (sym (apart_eqb (length m) s.field_count n))
-      (λ x. n (x.0 ∙ fields_counted))
-
-  -- ranges
-
-  module _ (m : List ℕ) (f : ℕ) (lt : f < s.field_count) where
-    next_range :
-        drop f (ranges s) ≡ range (range_at s.ranges f).low (range_at s.ranges f).high ∷ drop
-        (suc f) (ranges s)
-    next_range =
-        let few : f < length (take s.field_count s.ranges) =
-        subst (λ (k : ℕ). f < k) (sym (length-take-le s.field_count s.ranges few_fields)) lt in
-        let long : f < length (ranges s) =
-        subst (λ (k : ℕ). f < k) (sym (length-map (take s.field_count s.ranges) range_of)) few in
-        drop-cons (ranges s) f (range 0 0) long
-        ∙ ap (λ (r : tree.Range). r ∷ drop (suc f) (ranges s))
-        (get_or-map range_of (take s.field_count s.ranges) f no_range (range 0 0) few
-        ∙ ap range_of (get_or-take s.field_count s.ranges f no_range lt))
-
-    -- the number of field f in its range, and those past it in theirs
-    abbrev from_low : Bool
-    from_low = holds AtLeast (get_or m f 0) (range_at s.ranges f).low
-
-    abbrev within : Bool
-    within = holds AtMost (get_or m f 0) (range_at s.ranges f).high
-
-    abbrev past : Bool
-    past = ranged (drop (suc f) (ranges s)) (suc f) m
-
-    next_field :
-        ranged (drop f (ranges s)) f m
-        ≡ ((from_low && within) && past)
-    next_field = ap (λ rs. ranged rs f m) next_range
-
-    pub ranged_below :
-        ranged (ranges s) 0 m ≡ ranged (drop f (ranges s)) f m
-        → get_or m f 0 < (range_at s.ranges f).low
-        → false ≡ ranged (ranges s) 0 m
-    ranged_below h less =
-        sym (h ∙ next_field ∙ ap (λ (b : Bool). (not b && within) && past)
-        (lt-ltb (get_or m f 0) (range_at s.ranges f).low less))
-
-    pub ranged_above :
-        ranged (ranges s) 0 m ≡ ranged (drop f (ranges s)) f m
-        → (range_at s.ranges f).high < get_or m f 0
-        → false ≡ ranged (ranges s) 0 m
-    ranged_above h less =
-        sym (h ∙ next_field
-        ∙ ap (λ (b : Bool). (from_low && not b) && past)
-        (lt-ltb (range_at s.ranges f).high (get_or m f 0) less)
-        ∙ ap (λ (b : Bool). b && past) (and_false from_low))
-
-    pub ranged_more :
-        ranged (ranges s) 0 m ≡ ranged (drop f (ranges s)) f m
-        → (range_at s.ranges f).low ≤ get_or m f 0
-        → get_or m f 0 ≤ (range_at s.ranges f).high
-        → ranged (ranges s) 0 m ≡ ranged (drop (f + 1) (ranges s)) (f + 1) m
-    ranged_more h low high =
-        h ∙ next_field
-        ∙ ap₂ (λ (a b : Bool). (not a && not b) && past)
-        (le-ltb (get_or m f 0) (range_at s.ranges f).low low)
-        (le-ltb (range_at s.ranges f).high (get_or m f 0) high)
-        ∙ ap (λ (k : ℕ). ranged (drop k (ranges s)) k m) (sym (add-one f))
-
-  pub ranged_all :
-      (m : List ℕ) (f : ℕ) → s.field_count ≤ f
-      → ranged (ranges s) 0 m ≡ ranged (drop f (ranges s)) f m
-      → true ≡ ranged (ranges s) 0 m
-  ranged_all m f end h =
-      let few : length (ranges s) ≤ f = omega (arith, fields_counted_as) in
-      sym (h ∙ at_drop_all (λ rs. ranged rs f m) (ranges s) f few)
-    where
-      fields_counted_as : length (ranges s) ≡ s.field_count
-      fields_counted_as =
-          length-map (take s.field_count s.ranges) range_of
-          ∙ length-take-le s.field_count s.ranges few_fields
+      let apart = apart_eqb (length m) s.field_count n in (
+        λ t. absurd (n (search (tests, t))),
+        λ x. absurd (n (x.0 ∙ fields_counted)),
+      )
 
   -- the whole check
 

@@ -1,21 +1,17 @@
 -- What the private functions of the reading promise; only their proofs need this.
-use Rattle.std.specs.Prelude.{◌≡◌, ℕ, ◌<◌, Bool, true, false, List, map, take, Some, None, Option}
+use Rattle.std.specs.Prelude.{◌≡◌, ℕ, ◌≤◌, Bool, List, map, take, Some, None, Option}
 use Rattle.formula.specs.Trees.{Rule, Range}
 use Rattle.meaning.specs.Terms.{value}
 use Rattle.meaning.specs.Reading.{Answer, said, ran_out, left, Reads}
+use Rattle.sheet.specs.declared.node.Range.{Range as FieldRange}
 use Rattle.sheet.specs.declared.node.Term.{Term}
 use Rattle.sheet.specs.declared.table.Sheet.{Sheet}
 use Rattle.sheet.specs.Table.{term_of, formula_at}
 use Rattle.sheet.specs.Sheets.{range_of, rule_of}
 
--- a test says whether P holds
-abbrev pub Says : Bool → Type 0 → Type 0
-Says true P = P
-Says false P = P → ⊥
-
--- a number that a mark may hold
-abbrev pub Small : ℕ → Type 0
-Small v = v < 1024
+-- the number lies in the range
+abbrev pub Inside : FieldRange → ℕ → Type 0
+Inside r v = (r.low ≤ v) × (v ≤ r.high)
 
 -- the numbers of some terms
 abbrev pub values : (m e : List ℕ) → List Term → List ℕ

@@ -1,69 +1,56 @@
 // The reading of a formula of the sheet's table.
-ghost use Rattle.std.specs.Prelude.{◌≡◌, ◌≤◌, ◌≢◌, length, MatchBool};
-ghost use Rattle.meaning.specs.Terms.{wants};
+ghost use Rattle.std.specs.Prelude.{◌≡◌, ◌≤◌, length};
 ghost use Rattle.sheet.specs.Table.{line_at};
 ghost use Rattle.sheet.specs.Keeping.{Within};
 ghost use Rattle.reading.specs.Steps.{Read};
 
-use crate::terms;
-use formula::Join;
+use crate::terms::Numbers;
 use sheet::node::Node;
 use sheet::table::Sheet;
 
-// Whether the left side's result decides the join, so that the right side is not read.
-fn decides(join: Join, outcome: bool) -> bool
-    ensures { MatchBool result (outcome ≢ wants join) (outcome ≡ wants join) }
-{
-    match join {
-        Join::And => !outcome,
-        Join::Or => outcome,
-    }
-}
-
-// Reads the entry `node` of the line `line`, with the fuel that is there; none when it is spent.
+// Reads the entry `node` of the line `line`, with the fuel that is there; none when it is spent. The sheet stays beside
+// the numbers, which a call changes, and the line and the entry, which each part changes.
 pub(crate) fn read(
     sheet: &Sheet,
-    mark: &[u16],
-    args: &[u16],
+    numbers: Numbers,
     line: usize,
     node: usize,
     fuel: &mut u8,
 ) -> Option<bool>
     requires within { Within sheet.now.rule_count sheet.now.lines line node }
-    requires fields { length mark.now ≡ sheet.now.field_count }
-    requires params { length args.now ≡ (line_at sheet.now.lines line).params }
-    ensures read { Read sheet.now mark.now args.now node
+    requires fields { length numbers.mark.now ≡ sheet.now.field_count }
+    requires params { length numbers.args.now ≡ (line_at sheet.now.lines line).params }
+    ensures read { Read sheet.now numbers.entry.mark.now numbers.entry.args.now node
         fuel.old result fuel.new }
     ensures falls { fuel.new ≤ fuel.old }
 {
-    let entry = sheet.nodes[node];
-    match entry {
+    match sheet.nodes[node] {
         Node::Compare(left, sign, right) => {
-            let left = terms::evaluate(mark, args, left);
-            let right = terms::evaluate(mark, args, right);
+            let left = numbers.of_term(left);
+            let right = numbers.of_term(right);
             Some(sign.holds(left, right))
         }
         Node::Call(rule, count, terms) => {
-            if *fuel == 0 {
-                return None;
-            }
-            let numbers = terms::evaluate_all(mark, args, terms);
-            *fuel -= 1;
+            *fuel = fuel.checked_sub(1)?;
+            let passed = numbers.of_terms(terms);
             let (rule, count) = (rule as usize, count as usize);
             let body = sheet.lines[rule].body as usize;
-            read(sheet, mark, &numbers[0..count], rule, body, fuel)
+            let mark = numbers.mark;
+            let args = &passed[..count];
+            read(sheet, Numbers { mark, args }, rule, body, fuel)
         }
         Node::Not(part) => {
-            let result = read(sheet, mark, args, line, part as usize, fuel)?;
+            let result = read(sheet, numbers, line, part as usize, fuel)?;
             Some(!result)
         }
-        Node::Pick(_, part) => read(sheet, mark, args, line, part as usize, fuel),
+        Node::Pick(_, part) => read(sheet, numbers, line, part as usize, fuel),
         Node::Join(join, _, _, first, second) => {
-            let result = read(sheet, mark, args, line, first as usize, fuel)?;
-            if decides(join, result) {
+            let result = read(sheet, numbers, line, first as usize, fuel)?;
+            // the other result decides the join, and its right side is not read
+            if result != join.wants() {
                 Some(result)
             } else {
-                read(sheet, mark, args, line, second as usize, fuel)
+                read(sheet, numbers, line, second as usize, fuel)
             }
         }
     }

@@ -15,6 +15,7 @@ ghost use Rattle.reading.specs.Answers.{verdict_of, answer_of, Right};
 
 use refusal::Refusal;
 use sheet::table::Sheet;
+use terms::Numbers;
 
 // What a check says of a mark.
 #[derive(Clone, Copy, PartialEq, Eq, Debug)]
@@ -57,21 +58,23 @@ fn read_mark(sheet: &Sheet, mark: &[u16], fuel: u8) -> Reading
     let mut left = fuel;
     let line = sheet.rule_count;
     let body = sheet.lines[line].body as usize;
-    let args: [u16; 0] = [];
-    let result = formulas::read(sheet, mark, &args, line, body, &mut left);
+    let numbers = Numbers { mark, args: &[] };
+    let result = formulas::read(sheet, numbers, line, body, &mut left);
     Reading {
-        verdict: verdict_on(result),
+        verdict: Verdict::from(result),
         calls: fuel - left,
     }
 }
 
 // The verdict on a mark in its ranges, by what the mark line reads as; none when it is spent.
-fn verdict_on(outcome: Option<bool>) -> Verdict
-    ensures { (left : ℕ) → verdict_of result ≡ verdict (answer outcome left) }
-{
-    match outcome {
-        Some(true) => Verdict::Allowed,
-        Some(false) => Verdict::NotAllowed,
-        None => Verdict::Spent,
+impl From<Option<bool>> for Verdict {
+    ghost from_gives = { λ outcome v. (left : ℕ) → verdict_of v ≡ verdict (answer outcome left) };
+
+    fn from(outcome: Option<bool>) -> Verdict {
+        match outcome {
+            Some(true) => Verdict::Allowed,
+            Some(false) => Verdict::NotAllowed,
+            None => Verdict::Spent,
+        }
     }
 }

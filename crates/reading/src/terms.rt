@@ -1,55 +1,55 @@
 // The numbers of names and terms, under a mark and the parameters' numbers.
 ghost use Rattle.std.specs.Prelude.{◌≡◌, true, length};
-ghost use Rattle.meaning.specs.Terms.{shifted, named, value};
-ghost use Rattle.sheet.specs.Table.{name_of, shift_of, term_of};
+ghost use Rattle.meaning.specs.Terms.{named, value};
+ghost use Rattle.sheet.specs.Table.{name_of, term_of};
 ghost use Rattle.sheet.specs.Keeping.{known_name, known_term, known_terms};
 ghost use Rattle.reading.specs.Steps.{values};
 
-use sheet::node::{Name, Shift, Term};
+use sheet::node::{Name, Term};
 
-// The number of a field or a parameter.
-fn number(mark: &[u16], args: &[u16], name: Name) -> u16
-    requires { known_name (length mark.now) (length args.now) name ≡ true }
-    ensures { result ≡ named mark.now args.now (name_of name) }
-{
-    match name {
-        Name::Field(f) => mark[f as usize],
-        Name::Param(p) => args[p as usize],
-    }
+// The numbers of the fields, and of a line's parameters.
+#[derive(Clone, Copy)]
+pub(crate) struct Numbers<'a> {
+    pub(crate) mark: &'a [u16],
+    pub(crate) args: &'a [u16],
 }
 
-// A number with `+` or `-` and another: `+` stops at 1,023 and `-` at 0.
-fn shift(number: u16, by: Shift) -> u16
-    ensures { result ≡ shifted (shift_of by) number }
-{
-    match by {
-        Shift::Up(k) => number.saturating_add(k).min(1023),
-        Shift::Down(k) => number.saturating_sub(k),
+impl Numbers<'_> {
+    // The number of a field or a parameter.
+    fn of_name(self, name: Name) -> u16
+        requires { known_name (length self.mark.now) (length self.args.now) name ≡ true }
+        ensures { result ≡ named self.entry.mark.now self.entry.args.now (name_of name) }
+    {
+        match name {
+            Name::Field(f) => self.mark[f as usize],
+            Name::Param(p) => self.args[p as usize],
+        }
     }
-}
 
-// The number that a term is worth.
-pub(crate) fn evaluate(mark: &[u16], args: &[u16], term: Term) -> u16
-    requires { known_term (length mark.now) (length args.now) term ≡ true }
-    ensures { result ≡ value mark.now args.now (term_of term) }
-{
-    match term {
-        Term::Number(n) => n,
-        Term::Bare(name) => number(mark, args, name),
-        Term::Moved(name, by) => shift(number(mark, args, name), by),
+    // The number that a term is worth.
+    pub(crate) fn of_term(self, term: Term) -> u16
+        requires { known_term (length self.mark.now) (length self.args.now) term ≡ true }
+        ensures { result ≡ value self.entry.mark.now self.entry.args.now (term_of term) }
+    {
+        match term {
+            Term::Number(n) => n,
+            Term::Bare(name) => self.of_name(name),
+            Term::Moved(name, by) => by.apply(self.of_name(name)),
+        }
     }
-}
 
-// The numbers of a call's terms.
-pub(crate) fn evaluate_all(mark: &[u16], args: &[u16], terms: [Term; 4]) -> [u16; 4]
-    requires long { length terms ≡ 4 }
-    requires known { known_terms (length mark.now) (length args.now) terms ≡ true }
-    ensures { result ≡ values mark.now args.now terms }
-{
-    [
-        evaluate(mark, args, terms[0]),
-        evaluate(mark, args, terms[1]),
-        evaluate(mark, args, terms[2]),
-        evaluate(mark, args, terms[3]),
-    ]
+    // The numbers of a call's terms.
+    // tried: `terms.map`; that its closure may be called at each of the terms was not proved
+    pub(crate) fn of_terms(self, terms: [Term; 4]) -> [u16; 4]
+        requires long { length terms ≡ 4 }
+        requires known { known_terms (length self.mark.now) (length self.args.now) terms ≡ true }
+        ensures { result ≡ values self.entry.mark.now self.entry.args.now terms }
+    {
+        [
+            self.of_term(terms[0]),
+            self.of_term(terms[1]),
+            self.of_term(terms[2]),
+            self.of_term(terms[3]),
+        ]
+    }
 }

@@ -4,35 +4,36 @@
 ghost use Rattle.std.specs.Prelude.{◌≡◌};
 ghost use Rattle.refusal.specs.Table.{number, layer};
 
-#[derive(Clone, Copy, PartialEq, Eq, Debug)]
+#[derive(Clone, Copy, PartialEq, Eq, PartialOrd, Ord, Debug)]
 pub enum Refusal {
-    TextTooLong,
-    ByteNotPermitted,
-    OverLimit,
-    TokenNotPermitted,
-    TooDeep,
-    JoinMixes,
-    NameTaken,
-    NameUnknown,
-    WrongTermCount,
-    WrongNumber,
-    TooMany,
-    FieldsDiffer,
-    ListTooShort,
-    TraceUnfit,
-    NotFinished,
-    NotAMark,
-    BadSeed,
-    BufferTooShort,
-    Outside,
-    PairsFull,
+    TextTooLong = 1,
+    ByteNotPermitted = 2,
+    OverLimit = 3,
+    TokenNotPermitted = 4,
+    TooDeep = 5,
+    JoinMixes = 6,
+    NameTaken = 7,
+    NameUnknown = 8,
+    WrongTermCount = 9,
+    WrongNumber = 10,
+    TooMany = 11,
+    FieldsDiffer = 12,
+    ListTooShort = 13,
+    TraceUnfit = 14,
+    NotFinished = 15,
+    NotAMark = 16,
+    BadSeed = 18,
+    BufferTooShort = 19,
+    Outside = 20,
+    PairsFull = 21,
 }
 
-// Where a sheet's text goes wrong: the refusal, and the offset of the byte where it stands.
-#[derive(Clone, Copy, PartialEq, Eq, Debug)]
+// Where a sheet's text goes wrong: the offset of the byte where it stands, and the refusal. The first fault of some
+// is the least: that of the first place, and there of the least number.
+#[derive(Clone, Copy, PartialEq, Eq, PartialOrd, Ord, Debug)]
 pub struct Fault {
-    pub refusal: Refusal,
     pub place: usize,
+    pub refusal: Refusal,
 }
 
 impl Refusal {
@@ -40,28 +41,7 @@ impl Refusal {
     pub fn number(self) -> u8
         ensures { result ≡ number self }
     {
-        match self {
-            Refusal::TextTooLong => 1,
-            Refusal::ByteNotPermitted => 2,
-            Refusal::OverLimit => 3,
-            Refusal::TokenNotPermitted => 4,
-            Refusal::TooDeep => 5,
-            Refusal::JoinMixes => 6,
-            Refusal::NameTaken => 7,
-            Refusal::NameUnknown => 8,
-            Refusal::WrongTermCount => 9,
-            Refusal::WrongNumber => 10,
-            Refusal::TooMany => 11,
-            Refusal::FieldsDiffer => 12,
-            Refusal::ListTooShort => 13,
-            Refusal::TraceUnfit => 14,
-            Refusal::NotFinished => 15,
-            Refusal::NotAMark => 16,
-            Refusal::BadSeed => 18,
-            Refusal::BufferTooShort => 19,
-            Refusal::Outside => 20,
-            Refusal::PairsFull => 21,
-        }
+        self as u8
     }
 
     // The layer of reading that refuses: 1 signs, 2 grammar, 3 names; 0 for a refusal that is not of a text.

@@ -1,7 +1,11 @@
 -- The marks of a register: its rows are its marks, keeping and restarting, and the numbers that a field
 -- takes.
-use Rattle.std.proofs.Common.{◌≡◌, ℕ, ◌+◌, ◌*◌, ◌/◌, ◌<◌, ◌≤◌, Bool, true, false, ◌&&◌, ◌||◌, eqb, ltb, List, [], ◌∷◌, length, get_or, Ok, Err, Result, sym, refl, ap, ◌∙◌, subst, ⊎_elim, mul-le-mul_right, add-mul, le-div_iff_mul-le, div-mul-le_self, add-one, arith, length-drop, length-take}
+use Rattle.std.proofs.Common.{◌≡◌, ℕ, ◌+◌, ◌*◌, ◌/◌, ◌<◌, ◌≤◌, Bool, true, false, ◌&&◌, ◌||◌, eqb, ltb, List, [], ◌∷◌, ◌++◌, length, get_or, Some, Ok, Err, Result, sym, refl, ap, ◌∙◌, subst, ⊎_elim, mul-le-mul_right, add-mul, le-div_iff_mul-le, div-mul-le_self, add-one, arith, length-drop, length-take, length-append, take, drop, zero-mul}
 use mathlib.Core.Bool.{and_assoc, or_comm}
+use Rattle.std.specs.Borrow.{Bor}
+use Rattle.std.specs.declared.slice.ChunksExact.{ChunksExact}
+use Rattle.std.specs.Slice.Iter.{chunks_exact_rest, chunks_exact_size, chunks_exact_steps}
+use Rattle.std.proofs.lemmas.List.{take_at, drop_at, drop-drop}
 use Rattle.std.proofs.ByRecursion.{All-get_or}
 use Rattle.std.proofs.lemmas.Bool.{and_from, and_parts, and_left, and_right, eqb-true, eq-eqb, ne_eqb, lt-ltb, le-ltb, cases_lt, both_ways}
 use Rattle.std.proofs.lemmas.Bool.Decides.{same_from_decides}
@@ -138,6 +142,59 @@ module _ (s : RegisterStore) where
       empty_some n (register_left s) (λ m t.
       let w = left_row m t in
       both_ways _ (h w.0 w.1) (subst (λ z. open_left s.allowed z ≡ true) w.2 w.3))
+
+  -- a loop over the rows after k of them: what is left of the register, cut at the width
+  pub record Stands (rows : ChunksExact ℕ) (k : ℕ) : Type 0 where
+    pub size : chunks_exact_size rows ≡ n
+    pub rest : chunks_exact_rest rows ≡ drop (k * n) (numbers_of s)
+    pub came : k ≤ count
+
+  pub stands_first : (rows : ChunksExact ℕ) → chunks_exact_rest rows ≡ numbers_of s
+      → chunks_exact_size rows ≡ n → Stands rows 0
+  stands_first rows e w = record { size = w; rest = e ∙ rw zero-mul refl; came = omega arith }
+
+  -- the next of them is row k
+  pub stands_turn : (rows after : ChunksExact ℕ) (k : ℕ) (mark : Bor (List ℕ)) → Stands rows k
+      → chunks_exact_steps rows (Some mark) after
+      → Stands after (k + 1) × (k < count) × (mark.now ≡ row k)
+  stands_turn rows after k mark at h =
+      let xs = numbers_of s in
+      let cut : drop (k * n) xs ≡ mark.now ++ chunks_exact_rest after = sym at.rest ∙ h.1.0 in
+      let long : length mark.now ≡ n = h.1.1 ∙ at.size in
+      let fits : k * n + n ≤ length xs = omega (
+        arith,
+        ap length cut,
+        length-drop (k * n) xs,
+        length-append mark.now (chunks_exact_rest after),
+        long,
+        s.allowed.few.0,
+      ) in
+      let here = row_counts (length xs) n k s.allowed.few.0 fits in (
+        record {
+          size = h.0 ∙ at.size;
+          rest = sym (drop_at mark.now (chunks_exact_rest after) n long) ∙ ap (drop n) (sym cut)
+              ∙ drop-drop n (k * n) xs ∙ ap (λ i. drop i xs) (omega (arith, add-mul k 1 n));
+          came = omega (arith, here);
+        },
+        here,
+        sym (take_at mark.now (chunks_exact_rest after) n long) ∙ ap (take n) (sym cut),
+      )
+
+  -- where less than a row is left, each row has come
+  pub stands_last : (rows : ChunksExact ℕ) (k : ℕ) → Stands rows k
+      → length (chunks_exact_rest rows) < chunks_exact_size rows → k ≡ count
+  stands_last rows k at h =
+      let xs = numbers_of s in
+      ⊎_elim
+      (λ t. absurd (omega (
+        arith,
+        row_fits (length xs) n k t,
+        length-drop (k * n) xs,
+        ap length at.rest,
+        at.size,
+      )))
+      (λ t. omega (arith, at.came))
+      (cases_lt k count)
 
   -- whether one of the first k rows that are left has v at f
   unfoldable pub seen_in : ℕ → ℕ → ℕ → Bool

@@ -1,21 +1,23 @@
 // The register store: its marks are the rows of a register that is held for reading.
 #![tactic(auto)]
 
-ghost use Rattle.std.specs.Prelude.{◌≡◌, ◌+◌, ◌*◌, ◌/◌, ◌<◌, length};
+ghost use Rattle.std.specs.Prelude.{◌≡◌};
+ghost use Rattle.std.specs.Slice.Iter.{chunks_exact_rest, chunks_exact_size};
 ghost use Rattle.store.specs.Rules.{TellsEmpty};
 ghost use Rattle.store.specs.TakenRows.{HasTaken};
-ghost use Rattle.register.specs.Registers.{HasRows, numbers_of, width_of, row_at, register_start, register_left};
+ghost use Rattle.register.specs.Registers.{HasRows, numbers_of, width_of, register_start, register_left};
 ghost use Rattle.register.specs.Sounds.{register_sound};
 
 use formula::Comparison;
 use refusal::Refusal;
 use sheet::table::Sheet;
+use std::slice::ChunksExact;
 use store::Store;
 use store::open::OpenStore;
 use store::row::Row;
 
 // A register, so many numbers to a row, and for each field the numbers that may still stand there.
-#[derive(Drop)]
+#[derive(PartialEq, Eq, Debug, Drop)]
 pub struct RegisterStore<'a> {
     register: &'a [u16],
     allowed: OpenStore,
@@ -38,30 +40,20 @@ impl<'a> RegisterStore<'a> {
 }
 
 impl RegisterStore<'_> {
-    // How many whole rows there are.
-    fn row_count(&self) -> usize
-        ensures { result ≡ length (numbers_of self.now) / width_of self.now }
+    // The whole rows.
+    fn rows(&self) -> ChunksExact<'_, u16>
+        ensures rest { chunks_exact_rest result ≡ numbers_of self.now }
+        ensures size { chunks_exact_size result ≡ width_of self.now }
     {
-        self.register.len() / self.allowed.fields()
-    }
-
-    // Row i.
-    fn row(&self, i: usize) -> &[u16]
-        requires { i < length (numbers_of self.now) / width_of self.now }
-        ensures value { result.now ≡ row_at (numbers_of self.now) (width_of self.now) i }
-        ensures long { length result.now ≡ width_of self.now }
-    {
-        let width = self.allowed.fields();
-        let from = i * width;
-        &self.register[from..from + width]
+        self.register.chunks_exact(self.allowed.fields())
     }
 
     // Whether no row is left.
     fn none_left(&self) -> bool
         ensures { TellsEmpty (width_of self.now) (register_left self.now) result }
     {
-        for i in 0..self.row_count() {
-            if self.allowed.contains(self.row(i)) {
+        for mark in self.rows() {
+            if self.allowed.contains(mark) {
                 return false;
             }
         }
@@ -76,8 +68,7 @@ impl RegisterStore<'_> {
         if field >= self.allowed.fields() {
             return seen;
         }
-        for i in 0..self.row_count() {
-            let mark = self.row(i);
+        for mark in self.rows() {
             if self.allowed.contains(mark) {
                 seen.add(mark[field]);
             }

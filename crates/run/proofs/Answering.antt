@@ -1,5 +1,5 @@
 -- What the lists hold at the end of a run, and what a run that is halted or ends early means.
-use Rattle.std.proofs.Common.{◌≡◌, ℕ, zero, suc, ◌+◌, ◌≤◌, List, [], ◌∷◌, ◌++◌, length, take, drop, set, Some, None, sym, refl, ap, ◌∙◌, subst, inl, inr, arith}
+use Rattle.std.proofs.Common.{◌≡◌, ℕ, zero, suc, ◌+◌, ◌≤◌, List, [], ◌∷◌, ◌++◌, length, take, drop, set, Some, None, Ok, Err, Result, sym, refl, ap, ◌∙◌, subst, inl, inr, arith}
 use lib.Seq.{set-get_or, sets, sets-eq}
 use Rattle.formula.specs.Trees.{Sheet}
 use Rattle.marks.specs.Sets.{Marks, MarksOf}
@@ -8,8 +8,8 @@ use Rattle.meaning.specs.Traces.{Choice, width, took, Trace}
 use Rattle.meaning.specs.Runs.{Outcome, mark, dead_end, spent_run, Run}
 use Rattle.meaning.specs.Draws.{Takes, takes_none, takes_one}
 use Rattle.meaning.proofs.Runs.{run_part}
-use Rattle.run.specs.declared.along.End.{End}
-use Rattle.run.specs.declared.along.End.TheVariants.{Mark, DeadEnd, Spent, Halted}
+use Rattle.run.specs.declared.stop.Stop.{Stop}
+use Rattle.run.specs.declared.stop.Stop.TheVariants.{DeadEnd, Spent, Halted}
 use Rattle.run.specs.Guides.{Noted, Guide, recorded, numbers, NoPick, Guided, entries}
 use Rattle.run.specs.Answering.{over, picks_of, widths_of}
 use Rattle.run.specs.Ways.{Trail, trail, put, written, Way, Took, Halt}
@@ -129,50 +129,50 @@ module _ (s : Sheet) (fuel : ℕ) (S : Marks) (B : MarksOf (fields_of s) S) wher
       differ q = let z = ap count q in omega arith
 
   pub unfit_none :
-      (z y : Way) (x : End) (e : Noted) (es : List Noted)
+      (z y : Way) (x : Result (List ℕ) Stop) (e : Noted) (es : List Noted)
       → Along s fuel S z x y
       → y.guide ≡ recorded (e ∷ es)
       → (t : Trace) (o : Outcome) → Run s fuel S t o → Guided z.guide t (recorded []) → ⊥
-  unfit_none z y (Mark vs) e es k is t o r g = early_none z y (mark (take (fields_of s) vs)) e es k is t o r g
-  unfit_none z y DeadEnd e es k is t o r g = early_none z y dead_end e es k is t o r g
-  unfit_none z y Spent e es k is t o r g = early_none z y spent_run e es k is t o r g
-  unfit_none z y Halted e es k is t o r g = halted_none z y k t o (recorded []) r g
+  unfit_none z y (Ok vs) e es k is t o r g = early_none z y (mark (take (fields_of s) vs)) e es k is t o r g
+  unfit_none z y (Err DeadEnd) e es k is t o r g = early_none z y dead_end e es k is t o r g
+  unfit_none z y (Err Spent) e es k is t o r g = early_none z y spent_run e es k is t o r g
+  unfit_none z y (Err Halted) e es k is t o r g = halted_none z y k t o (recorded []) r g
 
   -- the lists then
   pub unfit_same :
-      (ps ws : List ℕ) (n : ℕ) (y : Way) (x : End) (e : Noted) (es : List Noted)
+      (ps ws : List ℕ) (n : ℕ) (y : Way) (x : Result (List ℕ) Stop) (e : Noted) (es : List Noted)
       → Along s fuel S (record { trail = trail ps ws 0; guide = recorded (entries ps ws 0 n) }) x y
       → y.guide ≡ recorded (e ∷ es)
       → (y.trail.picks ≡ ps) × (y.trail.widths ≡ ws)
-  unfit_same ps ws n y (Mark vs) e es k is = took_same ps ws n y e es k.trace k.guided k.end is
-  unfit_same ps ws n y DeadEnd e es k is = took_same ps ws n y e es k.trace k.guided k.end is
-  unfit_same ps ws n y Spent e es k is = took_same ps ws n y e es k.trace k.guided k.end is
-  unfit_same ps ws n y Halted e es k is = took_same ps ws n y e es k.before k.guided k.end is
+  unfit_same ps ws n y (Ok vs) e es k is = took_same ps ws n y e es k.trace k.guided k.end is
+  unfit_same ps ws n y (Err DeadEnd) e es k is = took_same ps ws n y e es k.trace k.guided k.end is
+  unfit_same ps ws n y (Err Spent) e es k is = took_same ps ws n y e es k.trace k.guided k.end is
+  unfit_same ps ws n y (Err Halted) e es k is = took_same ps ws n y e es k.before k.guided k.end is
 
 -- the run whose outcome an end tells
 pub along_took :
-    (s : Sheet) (fuel : ℕ) (S : Marks) (z y : Way) (x : End) (o : Outcome)
+    (s : Sheet) (fuel : ℕ) (S : Marks) (z y : Way) (x : Result (List ℕ) Stop) (o : Outcome)
     → end_of x (fields_of s) ≡ Some o
     → Along s fuel S z x y
     → Took z (λ t. Run s fuel S t o) y
-along_took s fuel S z y (Mark vs) o e k =
+along_took s fuel S z y (Ok vs) o e k =
     let q : mark (take (fields_of s) vs) ≡ o = cc in
     subst (λ a. Took z (λ t. Run s fuel S t a) y) q k
-along_took s fuel S z y DeadEnd o e k = let q : dead_end ≡ o = cc in subst
+along_took s fuel S z y (Err DeadEnd) o e k = let q : dead_end ≡ o = cc in subst
     (λ a. Took z (λ t. Run s fuel S t a) y) q k
-along_took s fuel S z y Spent o e k = let q : spent_run ≡ o = cc in subst
+along_took s fuel S z y (Err Spent) o e k = let q : spent_run ≡ o = cc in subst
     (λ a. Took z (λ t. Run s fuel S t a) y) q k
-along_took s fuel S z y Halted o e k = let q : ◌≡◌ {A = ℕ} 0 1 = cc in absurd (omega arith)
+along_took s fuel S z y (Err Halted) o e k = let q : ◌≡◌ {A = ℕ} 0 1 = cc in absurd (omega arith)
 
 pub along_halt :
-    (s : Sheet) (fuel : ℕ) (S : Marks) (z y : Way) (x : End)
+    (s : Sheet) (fuel : ℕ) (S : Marks) (z y : Way) (x : Result (List ℕ) Stop)
     → end_of x (fields_of s) ≡ None
     → Along s fuel S z x y
     → Halt z (Running s fuel S) y
-along_halt s fuel S z y (Mark vs) e k = let q : ◌≡◌ {A = ℕ} 0 1 = cc in absurd (omega arith)
-along_halt s fuel S z y DeadEnd e k = let q : ◌≡◌ {A = ℕ} 0 1 = cc in absurd (omega arith)
-along_halt s fuel S z y Spent e k = let q : ◌≡◌ {A = ℕ} 0 1 = cc in absurd (omega arith)
-along_halt s fuel S z y Halted e k = k
+along_halt s fuel S z y (Ok vs) e k = let q : ◌≡◌ {A = ℕ} 0 1 = cc in absurd (omega arith)
+along_halt s fuel S z y (Err DeadEnd) e k = let q : ◌≡◌ {A = ℕ} 0 1 = cc in absurd (omega arith)
+along_halt s fuel S z y (Err Spent) e k = let q : ◌≡◌ {A = ℕ} 0 1 = cc in absurd (omega arith)
+along_halt s fuel S z y (Err Halted) e k = k
 
 -- at the end of the entries there is a pick
 pub entries_over : (c : Choice) → NoPick (recorded []) c → ⊥

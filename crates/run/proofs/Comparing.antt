@@ -112,14 +112,14 @@ module _ (e : List Argument) (l : Term) (s : Comparison) (r : Term) (b : Bool) (
 
         pub three_halt :
             (P : Marks) (y₃ : Way)
-            → LeftOne w S₂ (argument_of a) (argument_of c) y₂ false P y₃
+            → LeftOne w S₂ (argument_of a) (argument_of c) y₂ None P y₃
             → Compared w e l s r b S z None P y₃
         three_halt P y₃ h = halt_after {N = Then} (λ t u m n. n t m) p.took
             (halt_after {L = Then} (λ u v m n t k. three k m n.1) q.took h)
 
         pub compared :
             (S₃ P : Marks) (y₃ : Way) (k : Bool)
-            → LeftOne w S₂ (argument_of a) (argument_of c) y₂ true S₃ y₃
+            → LeftOne w S₂ (argument_of a) (argument_of c) y₂ (Some tt) S₃ y₃
             → Kept w S₃ (aimed b s) (argument_of a) (argument_of c) k P
             → Compared w e l s r b S z (Some k) P y₃
         compared S₃ P y₃ true o h =

@@ -1,51 +1,13 @@
 -- Recorded entries one by one, and that a guide tells at most one trace.
-use Rattle.std.proofs.Common.{◌≡◌, ℕ, zero, suc, ◌-◌, ◌<◌, ◌≢◌, List, [], ◌∷◌, ◌++◌, get_or, set, sym, refl, ap, ◌∙◌, subst, arith, get_or-set_other}
-use Rattle.meaning.specs.Traces.{Choice, width, took, Trace, Apart, here, there}
-use Rattle.run.specs.declared.guide.Guide.{Guide as GuideUsed}
-use Rattle.run.specs.declared.guide.Guide.TheVariants.{Recorded, Drawn}
+use Rattle.std.proofs.Common.{◌≡◌, ℕ, suc, ◌-◌, ◌<◌, List, [], ◌∷◌, ◌++◌, get_or, sym, ap, ◌∙◌, subst, arith}
+use Rattle.meaning.specs.Traces.{Choice, took, Trace, Apart, here, there}
 use Rattle.run.specs.Guides.{noted, Guide, recorded, numbers, Picks, NoPick, Guided, entries}
-use Rattle.run.specs.Ways.{ahead}
-
--- a write at a place leaves the entries past it
-pub entries_set :
-    (ps ws : List ℕ) (k p w j n : ℕ)
-    → k < j → entries (set ps k p) (set ws k w) j n ≡ entries ps ws j n
-entries_set ps ws k p w j zero h = refl
-entries_set ps ws k p w j (suc n) h =
-    let ne : j ≢ k = omega arith in
-    (λ i. noted (get_or-set_other ps k j p 0 ne i) (get_or-set_other ws k j w 0 ne i) ∷ entries_set ps ws k p w
-    (suc j) n (omega arith) i)
-
-pub ahead_set :
-    (g : GuideUsed) (ps ws : List ℕ) (k p w : ℕ) (ns : List ℕ)
-    → ahead g (set ps k p) (set ws k w) (suc k) ns ≡ ahead g ps ws (suc k) ns
-ahead_set (Recorded given) ps ws k p w ns = ap recorded
-    (entries_set ps ws k p w (suc k) (given - suc k) (omega arith))
-ahead_set Drawn ps ws k p w ns = refl
 
 module _ (given : ℕ) (ps ws : List ℕ) (k : ℕ) (l : k < given) where
   -- the next of the given entries
   pub entries_next : entries ps ws k (given - k) ≡ noted (get_or ps k 0) (get_or ws k 0) ∷ entries ps ws (suc k)
       (given - suc k)
   entries_next = let e : given - k ≡ suc (given - suc k) = omega arith in ap (entries ps ws k) e
-
-  pub entry_tells :
-      (c : Choice)
-      → get_or ws k 0 ≡ width c
-      → get_or ps k 0 < width c
-      → Picks (recorded (entries ps ws k (given - k))) c (get_or ps k 0)
-      (recorded (entries ps ws (suc k) (given - suc k)))
-  entry_tells c e h =
-      subst (λ es. Picks (recorded es) c (get_or ps k 0) (recorded (entries ps ws (suc k) (given - suc k))))
-      (sym entries_next) (refl, e, h, refl)
-
-  pub entry_unfit :
-      (c : Choice)
-      → (get_or ws k 0 ≡ width c → get_or ps k 0 < width c → ⊥)
-      → NoPick (recorded (entries ps ws k (given - k))) c
-  entry_unfit c unfit j h p =
-      let q = subst (λ es. Picks (recorded es) c j h) entries_next p in
-      unfit q.1 q.2
 
 -- a guide tells one pick of a choice
 pub picks_one :

@@ -1,6 +1,7 @@
 -- Known and unknown fields, and what a comparison keeps.
-use Rattle.std.proofs.Common.{◌≡◌, ℕ, Bool, true, false, eqb, [], ◌∷◌, length, get_or, Some, None, sym, refl, ap, ◌∙◌, subst, inl}
-use Rattle.std.proofs.lemmas.Bool.{and_from, and_parts, eqb-true, eq-eqb}
+use Rattle.std.proofs.Common.{◌≡◌, ℕ, Bool, true, false, eqb, [], ◌∷◌, length, get_or, Some, None, Option, sym, refl, ap, ◌∙◌, subst, inl}
+use Rattle.std.specs.Option.{is_some}
+use Rattle.std.proofs.lemmas.Bool.{and_from, and_parts, eqb-true, eq-eqb, false≢true}
 use Rattle.marks.specs.Sets.{Marks}
 use Rattle.marks.specs.Counted.{some}
 use Rattle.formula.specs.declared.Comparison.{Comparison}
@@ -38,8 +39,17 @@ settled_known {S = S} (chosen {f = f} {vs = vs} k V n l) =
           (q ∙ in_one v x i));
     }
 
+-- an argument whose number was told is known, and one without is not
+pub known_if : (S : Marks) (a : Argument) (r : Option ℕ) → true ≡ is_some r → Knows S a r → (v : ℕ) × Knows S a (Some v)
+known_if S a (Some v) e k = (v, k)
+known_if S a None e k = absurd (false≢true (sym e))
+
+pub unknown_if : (S : Marks) (a : Argument) (r : Option ℕ) → false ≡ is_some r → Knows S a r → Knows S a None
+unknown_if S a (Some v) e k = absurd (false≢true e)
+unknown_if S a None e k = k
+
 module _ (w : ℕ) (S : Marks) (z : Way) (alive : some w S ≡ true) where
-  pub leave_left : (a b : Argument) (v : ℕ) → Knows S a (Some v) → LeftOne w S a b z true S z
+  pub leave_left : (a b : Argument) (v : ℕ) → Knows S a (Some v) → LeftOne w S a b z (Some tt) S z
   leave_left a b v k = record {
     took = took_none (at_most_one (λ p q. known_not S a v k.0 p));
     apart = λ p
@@ -47,7 +57,7 @@ module _ (w : ℕ) (S : Marks) (z : Way) (alive : some w S ≡ true) where
     alive = alive;
   }
 
-  pub leave_right : (a b : Argument) (v : ℕ) → Knows S b (Some v) → LeftOne w S a b z true S z
+  pub leave_right : (a b : Argument) (v : ℕ) → Knows S b (Some v) → LeftOne w S a b z (Some tt) S z
   leave_right a b v k = record {
     took = took_none (at_most_one (λ p q. known_not S b v k.0 q));
     apart = λ p
@@ -58,7 +68,7 @@ module _ (w : ℕ) (S : Marks) (z : Way) (alive : some w S ≡ true) where
   module _ (a : Held) (b : Argument) (p : Knows S (argument_of a) None) (q : Knows S b None) where
     pub leave_first :
         (v : ℕ) (P : Marks) (y : Way) → Settled w S a z (Some v) P y
-        → LeftOne w S (argument_of a) b z true P y
+        → LeftOne w S (argument_of a) b z (Some tt) P y
     leave_first v P y s = record {
       took = took_map (λ t m. left_first p q m) s.took;
       apart = λ u x.
@@ -67,7 +77,7 @@ module _ (w : ℕ) (S : Marks) (z : Way) (alive : some w S ≡ true) where
     }
 
     pub leave_halt :
-        (P : Marks) (y : Way) → Settled w S a z None P y → LeftOne w S (argument_of a) b z false P y
+        (P : Marks) (y : Way) → Settled w S a z None P y → LeftOne w S (argument_of a) b z None P y
     leave_halt P y h = halt_map (λ t m. (m.0, left_first p q m.2)) h
 
     pub leave_fits : Fits z (LeavingOne S (argument_of a) b) → Fits z (Settling S (argument_of a))

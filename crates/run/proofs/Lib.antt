@@ -9,7 +9,9 @@ pub mod Passing
 pub mod Tables
 pub mod Turns
 pub mod Arms
+pub mod Turning
 pub mod Works
 pub mod Ended
 pub mod Running
 pub mod Answering
+pub mod Following

@@ -1,5 +1,5 @@
 -- The terms of a call, one by one.
-use Rattle.std.proofs.Common.{◌≡◌, ℕ, zero, suc, ◌+◌, ◌-◌, ◌<◌, ◌≤◌, List, [], ◌∷◌, ◌++◌, map, length, get_or, take, set, sym, refl, ap, ◌∙◌, subst, append_assoc, append-nil, arith, get_or-set_other, get_or-set_same}
+use Rattle.std.proofs.Common.{◌≡◌, ℕ, zero, suc, ◌+◌, ◌-◌, ◌<◌, List, [], ◌∷◌, ◌++◌, map, length, get_or, take, set, sym, refl, ap, ◌∙◌, subst, append_assoc, append-nil, arith, get_or-set_other, get_or-set_same}
 use Rattle.marks.specs.Sets.{Marks}
 use Rattle.meaning.specs.Traces.{Trace}
 use Rattle.marks.specs.Sets.{Empty}
@@ -19,7 +19,7 @@ use Rattle.sheet.specs.Table.{term_of}
 use Rattle.run.specs.Frames.{argument_of, arguments_of, Okay}
 use Rattle.run.specs.Ways.{Way, Took, Halt, Fits}
 use Rattle.run.specs.Comparing.{Resolving}
-use Rattle.run.specs.Goals.{terms, from, Passing, PassLeads}
+use Rattle.run.specs.Goals.{from, Passing, PassLeads}
 use Rattle.run.proofs.Ways.{took_map, took_none, took_join, halt_on, halt_after, fits_on, fits_after}
 use Rattle.run.proofs.Comparing.{first, first_fair, resolves_alive}
 
@@ -27,11 +27,9 @@ from_tail : (x : Term) (ts : List Term) (i k : ℕ) → from (x ∷ ts) (suc i) 
 from_tail x ts i zero = refl
 from_tail x ts i (suc k) = ap (λ q. term_of (get_or ts i (Number 0)) ∷ q) (from_tail x ts (suc i) k)
 
-pub terms_from : (ts : List Term) (n : ℕ) → n ≤ length ts → terms ts n ≡ from ts 0 n
-terms_from ts zero h = refl
-terms_from [] (suc n) h = absurd (omega arith)
-terms_from (x ∷ ts) (suc n) h = ap (λ q. term_of x ∷ q)
-    (terms_from ts n (omega arith) ∙ sym (from_tail x ts 0 n))
+pub terms_from : (ts : List Term) → map term_of ts ≡ from ts 0 (length ts)
+terms_from [] = refl
+terms_from (x ∷ ts) = ap (λ q. term_of x ∷ q) (terms_from ts ∙ sym (from_tail x ts 0 (length ts)))
 
 arguments_push :
     (xs : List Held) (i : ℕ) (a : Held)

@@ -1,5 +1,6 @@
 -- A whole run, from its beginning, its match and its end.
-use Rattle.std.proofs.Common.{◌≡◌, ℕ, ◌+◌, ◌*◌, ◌≤◌, true, List, [], ◌++◌, length, subst, append-nil, arith}
+use Rattle.std.proofs.Common.{◌≡◌, ℕ, ◌+◌, ◌*◌, ◌≤◌, true, List, [], ◌++◌, length, take, Some, None, Err, Option, Result, sym, subst, append-nil, arith}
+use Rattle.std.specs.Option.{ok_or}
 use Rattle.formula.specs.Trees.{Sheet}
 use Rattle.marks.specs.Sets.{Marks, MarksOf, Empty}
 use Rattle.meaning.specs.Terms.{ranges_of, fields_of, rules_of, mark_line}
@@ -13,9 +14,11 @@ use Rattle.meaning.proofs.Lengths.{lengths}
 use Rattle.meaning.proofs.Soundness.{sound as matched_sound}
 use Rattle.meaning.proofs.Runs.{matches_alive}
 use Rattle.meaning.proofs.Picks.{finishes_told}
+use Rattle.run.specs.declared.stop.Stop.{Stop}
+use Rattle.run.specs.declared.stop.Stop.TheVariants.{DeadEnd, Spent, Halted}
 use Rattle.run.specs.Ways.{Way, Took, Halt, Fits}
-use Rattle.run.specs.Works.{Matching, Ending}
-use Rattle.run.specs.Whole.{Running}
+use Rattle.run.specs.Works.{Matching, Worked, Ending, Finished}
+use Rattle.run.specs.Whole.{Running, Along}
 use Rattle.run.proofs.Ways.{took_map, took_none, took_join, halt_on, halt_after, fits_on, fits_after}
 use Rattle.run.proofs.Comparing.{first, first_fair}
 
@@ -74,6 +77,16 @@ module _ (s : Sheet) (fuel : ℕ) (S : Marks) (B : MarksOf (fields_of s) S) wher
     match_spent y = took_map (λ v m. subst (λ q. Run s fuel S q spent_run) (append-nil v)
         (runs (some_left alive) m at_spent))
 
+    -- the match stops, and the run with it
+    pub match_stops :
+        (w : ℕ) (P : Marks) (y : Way) (e : Stop) (a : Result (List ℕ) Stop)
+        → a ≡ Err e
+        → Worked w (rules_of s) (mark_line s) fuel (inside S (ranges_of s)) z (Err e) P y
+        → Along s fuel S z a y
+    match_stops w P y DeadEnd a is h = subst (λ q. Along s fuel S z q y) (sym is) (match_dead y h)
+    match_stops w P y Spent a is h = subst (λ q. Along s fuel S z q y) (sym is) (match_spent y h)
+    match_stops w P y Halted a is h = subst (λ q. Along s fuel S z q y) (sym is) (match_halt y h)
+
     module _ (k : ℕ) (P : Marks) (y : Way) (led : Took z
         (λ v. Matches (rules_of s) [] (mark_line s) true (live fuel (inside S (ranges_of s))) v (live k P)) y)
       where
@@ -90,3 +103,13 @@ module _ (s : Sheet) (fuel : ℕ) (S : Marks) (B : MarksOf (fields_of s) S) wher
             → Took y (λ v. Ends 0 (fields_of s) P v Q vs) y'
             → Took z (λ v. Run s fuel S v (mark vs)) y'
         end_mark vs Q y' h = took_join (λ t u m n. runs (some_left alive) m (whole n)) led h
+
+        -- the fields are settled, or the run halted there
+        pub ends_as :
+            (Q : Marks) (y' : Way) (o : Option (List ℕ)) (a : Result (List ℕ) Stop)
+            → a ≡ ok_or o Halted
+            → Finished (fields_of s) P y o Q y'
+            → Along s fuel S z a y'
+        ends_as Q y' None a is h = subst (λ q. Along s fuel S z q y') (sym is) (end_halt y' h)
+        ends_as Q y' (Some vs) a is h = subst (λ q. Along s fuel S z q y') (sym is)
+            (end_mark (take (fields_of s) vs) Q y' h)

@@ -16,8 +16,16 @@ use Rattle.meaning.proofs.Values.{in_get_or}
 use Rattle.run.specs.declared.goal.Argument.TheVariants.{Field, Number}
 use Rattle.run.specs.Ways.{Way, Chosen, Room, Fits}
 use Rattle.run.specs.Comparing.{Knows}
-use Rattle.run.specs.Settling.{Settled, Settling, KeepsValue}
+use Rattle.run.specs.Settling.{Narrows, Settled, Settling, KeepsValue}
 use Rattle.run.proofs.Ways.{took_none}
+
+-- two calls that narrow a store, one after the other
+pub narrows_join :
+    {X : Type 0} (width : X → ℕ) (starting current : X → Marks) (a b c : X)
+    → Narrows width starting current a b
+    → Narrows width starting current b c
+    → Narrows width starting current a c
+narrows_join width starting current a b c p q = (q.0 ∙ p.0, q.1 ∙ p.1, λ m h. p.2 m (q.2 m h))
 
 pub some_alive : (w : ℕ) (S : Marks) → some w S ≡ true → Empty S → ⊥
 some_alive w S h e = let r = some_sound w S h in e r.0 r.2

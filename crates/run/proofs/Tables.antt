@@ -50,11 +50,24 @@ terms_okay w k (t ∷ ts) e zero l = term_okay w k t (both (known_term w k t) (k
 terms_okay w k (t ∷ ts) e (suc j) l =
     terms_okay w k ts (both (known_term w k t) (known_terms w k ts) e).1 j (omega arith)
 
+firsts_okay :
+    (w k : ℕ) (ts : List Term) (n : ℕ)
+    → n ≤ length ts
+    → n ≤ 4
+    → ((j : ℕ) → j < length ts → TermOkay w k (get_or ts j (Number 0)))
+    → TermsOkay w k (take n ts)
+firsts_okay w k ts n l few h =
+    let m = length-take-le n ts l in (
+      omega (arith, m),
+      λ j b. subst (TermOkay w k) (sym (get_or-take n ts j (Number 0) (omega (arith, b, m))))
+          (h j (omega (arith, b, m))),
+    )
+
 -- what a sheet keeps of the entry i of line l, for w fields and k parameters
 abbrev pub NodeOkay : Sheet → (w k l i : ℕ) → Node → Type 0
 NodeOkay s w k l i (Compare t c u) = TermOkay w k t × TermOkay w k u
-NodeOkay s w k l i (Call r n ts) = (r < s.rule_count) × (n ≡ (line_at s.lines r).params) × TermsOkay w k
-    ts n
+NodeOkay s w k l i (Call r n ts) =
+    (r < s.rule_count) × (n ≡ (line_at s.lines r).params) × (n ≤ length ts) × TermsOkay w k (take n ts)
 NodeOkay s w k l i (Not a) = Within s.rule_count s.lines l a
 NodeOkay s w k l i (Pick x a) = NameOkay w k x × Within s.rule_count s.lines l a
 NodeOkay s w k l i (Join j v u a b) =
@@ -80,11 +93,9 @@ module _ (s : Sheet) (l i : ℕ) (w : Within s.rule_count s.lines l i) where
       let few = (s.lines_kept r (omega (arith, reaches.0))).0 in (
         reaches.0,
         reaches.1,
-        (
-          omega (arith, few, reaches.1),
-          λ j h. terms_okay _ _ ts knows j
-              (omega (arith, reaches.2)),
-        ),
+        omega (arith, few, reaches.1, reaches.2),
+        firsts_okay s.field_count (line_at s.lines l).params ts n (omega (arith, few, reaches.1, reaches.2))
+            (omega (arith, few, reaches.1)) (terms_okay _ _ ts knows),
       )
   okay_of (Not a) e =
       let h = parts_of s.field_count s.rule_count s.lines l i (Not a) e in

@@ -1,5 +1,5 @@
 -- One turn of the loop, from what its parts come to.
-use Rattle.std.proofs.Common.{◌≡◌, ℕ, zero, suc, ◌+◌, ◌-◌, ◌*◌, ◌<◌, ◌≤◌, Bool, true, ◌≢◌, List, [], ◌∷◌, ◌++◌, length, get_or, set, sym, refl, ap, ◌∙◌, subst, suc-mul, add-one, arith, length-set, get_or-set_other, get_or-set_same, below_more}
+use Rattle.std.proofs.Common.{◌≡◌, ℕ, zero, suc, ◌+◌, ◌-◌, ◌*◌, ◌<◌, ◌≤◌, Bool, true, ◌≢◌, List, [], ◌∷◌, ◌++◌, length, get_or, set, Ok, Err, Result, sym, refl, ap, ◌∙◌, subst, suc-mul, add-one, arith, length-set, get_or-set_other, get_or-set_same, below_more}
 use Rattle.formula.specs.Trees.{Formula, Rule}
 use Rattle.marks.specs.Sets.{Marks}
 use Rattle.marks.specs.Counted.{some}
@@ -23,11 +23,11 @@ use Rattle.sheet.specs.Sheets.{tree_of, sizes_of}
 use Rattle.sheet.proofs.Holding.{formula_step}
 use Rattle.run.specs.declared.goal.Goal.{Goal}
 use Rattle.run.specs.declared.goal.Frame.{Frame}
-use Rattle.run.specs.declared.turn.Depth.{Depth}
+use Rattle.run.specs.declared.stack.Depth.{Depth}
 use Rattle.run.specs.Frames.{arguments_of, FrameOkay}
 use Rattle.run.specs.Ways.{Way, Took}
-use Rattle.run.specs.declared.turn.Turn.{Turn}
-use Rattle.run.specs.declared.turn.Turn.TheVariants.{Moved, Dead, Spent, Halted}
+use Rattle.run.specs.declared.stop.Stop.{Stop}
+use Rattle.run.specs.declared.stop.Stop.TheVariants.{DeadEnd, Spent, Halted}
 use Rattle.run.specs.Goals.{no_goal, no_frame, goal_of, pending, Spot, spot, Stood, Good, Fit, mass, Leads, Moves, Turned, Entered}
 use Rattle.run.proofs.Comparing.{first, first_fair}
 use Rattle.run.proofs.Tables.{NodeOkay, entry_okay, line_joins, body_size}
@@ -229,16 +229,17 @@ module _ (s : Sheet) (w : ℕ) (wide : w ≡ s.field_count) (gs : List Goal) (fs
 
     -- another stands in its place
     pub one_put :
-        (k : ℕ) (c : Bool) (gs' : List Goal) (D : Depth)
+        (k : ℕ) (c : Bool) (gs' : List Goal) (fs' : List Frame) (D : Depth)
         → Within s.rule_count s.lines stands.line k
         → joins (formula_at s.nodes k) ≤ joins F
         → size (formula_at s.nodes k) < size F
         → gs' ≡ set gs (n - 1) (record { formula = k; target = c; frame = top.frame })
+        → fs' ≡ fs
         → D ≡ depth (n - 1 + 1) f u
         → Took z (Leads (rules_of (tree_of s)) (goal above F b ∷ rest) u S
         (goal above (formula_at s.nodes k) c ∷ rest) u P) y
-        → Moves s (pending s gs fs n) u S z (spot gs' fs D) P y
-    one_put k c gs' D inner fewer smaller eg ed led =
+        → Moves s (pending s gs fs n) u S z (spot gs' fs' D) P y
+    one_put k c gs' fs' D inner fewer smaller eg ef ed led =
         let x : Goal = record { formula = k; target = c; frame = top.frame } in
         let room : n - 1 < length gs = omega (arith, fit.0.hold) in
         let put = pending_push s gs fs (n - 1) x room in
@@ -247,7 +248,8 @@ module _ (s : Sheet) (w : ℕ) (wide : w ≡ s.field_count) (gs : List Goal) (fs
         let l' = ap load put in
         let m' = ap mass put in
         let len = length-set gs (n - 1) x in
-        subst (λ q. Moves s (pending s gs fs n) u S z (spot q fs D) P y) (sym eg)
+        subst (λ q. Moves s (pending s gs fs n) u S z (spot gs' q D) P y) (sym ef)
+        (subst (λ q. Moves s (pending s gs fs n) u S z (spot q fs D) P y) (sym eg)
         (subst (λ q. Moves s (pending s gs fs n) u S z (spot (set gs (n - 1) x) fs q) P y) (sym ed)
         (record {
           took =
@@ -257,11 +259,11 @@ module _ (s : Sheet) (w : ℕ) (wide : w ≡ s.field_count) (gs : List Goal) (fs
           fit = (good_push (good_pop fit.0) x room (stands_part k c inner), omega (arith, fit.1));
           less = omega arith;
           alive = alive_in;
-        }))
+        })))
 
     -- two stand in its place
     pub two_put :
-        (k c : ℕ) (p q : Bool) (gs₁ gs' : List Goal) (D₁ D : Depth)
+        (k c : ℕ) (p q : Bool) (gs₁ gs' : List Goal) (fs' : List Frame) (D₁ D : Depth)
         → Within s.rule_count s.lines stands.line k
         → Within s.rule_count s.lines stands.line c
         → suc (joins (formula_at s.nodes k) + joins (formula_at s.nodes c)) ≤ joins F
@@ -269,11 +271,12 @@ module _ (s : Sheet) (w : ℕ) (wide : w ≡ s.field_count) (gs : List Goal) (fs
         → gs₁ ≡ set gs (n - 1) (record { formula = c; target = q; frame = top.frame })
         → D₁ ≡ depth (n - 1 + 1) f u
         → gs' ≡ set gs₁ D₁.goals (record { formula = k; target = p; frame = top.frame })
+        → fs' ≡ fs
         → D ≡ depth (D₁.goals + 1) D₁.frames D₁.fuel
         → Took z (Leads (rules_of (tree_of s)) (goal above F b ∷ rest) u S
         (goal above (formula_at s.nodes k) p ∷ goal above (formula_at s.nodes c) q ∷ rest) u P) y
-        → Moves s (pending s gs fs n) u S z (spot gs' fs D) P y
-    two_put k c p q gs₁ gs' D₁ D inner inner' fewer smaller eg₁ ed₁ eg ed led =
+        → Moves s (pending s gs fs n) u S z (spot gs' fs' D) P y
+    two_put k c p q gs₁ gs' fs' D₁ D inner inner' fewer smaller eg₁ ed₁ eg ef ed led =
         let a : Goal = record { formula = k; target = p; frame = top.frame } in
         let d : Goal = record { formula = c; target = q; frame = top.frame } in
         let mid = set gs (n - 1) d in
@@ -292,7 +295,8 @@ module _ (s : Sheet) (w : ℕ) (wide : w ≡ s.field_count) (gs : List Goal) (fs
         let eg'' : gs' ≡ set mid (n - 1 + 1) a = eg ∙ (λ j. set (eg₁ j) (ed₁ j).goals a) in
         let ed'' : D ≡ depth (n - 1 + 1 + 1) f u = ed ∙
         (λ j. depth ((ed₁ j).goals + 1) (ed₁ j).frames (ed₁ j).fuel) in
-        subst (λ q. Moves s (pending s gs fs n) u S z (spot q fs D) P y) (sym eg'')
+        subst (λ q. Moves s (pending s gs fs n) u S z (spot gs' q D) P y) (sym ef)
+        (subst (λ q. Moves s (pending s gs fs n) u S z (spot q fs D) P y) (sym eg'')
         (subst (λ q. Moves s (pending s gs fs n) u S z (spot (set mid (n - 1 + 1) a) fs q) P y) (sym ed'')
         (record {
           took =
@@ -307,7 +311,7 @@ module _ (s : Sheet) (w : ℕ) (wide : w ≡ s.field_count) (gs : List Goal) (fs
           );
           less = omega arith;
           alive = alive_in;
-        }))
+        })))
 
     -- a rule's formula stands in its place, with a frame of its own
     pub call_put :
@@ -383,12 +387,12 @@ module _ (s : Sheet) (w : ℕ) (wide : w ≡ s.field_count) (gs : List Goal) (fs
 pub entered :
     (s : Sheet) (gs : List Goal) (fs : List Frame) (n u : ℕ) (S P : Marks) (z y : Way) (q : Spot) (x : Frame)
     (k : ℕ) (b : Bool) (p : Spot)
-    → (Entered x k b p Moved q → Turned s (pending s gs fs n) u S z Moved q P y)
-    → (Entered x k b p Spent q → Turned s (pending s gs fs n) u S z Spent q P y)
-    → (r : Turn)
+    → (Entered x k b p (Ok tt) q → Turned s (pending s gs fs n) u S z (Ok tt) q P y)
+    → (Entered x k b p (Err Spent) q → Turned s (pending s gs fs n) u S z (Err Spent) q P y)
+    → (r : Result Unit Stop)
     → Entered x k b p r q
     → Turned s (pending s gs fs n) u S z r q P y
-entered s gs fs n u S P z y q x k b p moved out Moved h = moved h
-entered s gs fs n u S P z y q x k b p moved out Spent h = out h
-entered s gs fs n u S P z y q x k b p moved out Dead h = absurd h
-entered s gs fs n u S P z y q x k b p moved out Halted h = absurd h
+entered s gs fs n u S P z y q x k b p moved out (Ok d) h = moved h
+entered s gs fs n u S P z y q x k b p moved out (Err Spent) h = out h
+entered s gs fs n u S P z y q x k b p moved out (Err DeadEnd) h = absurd h
+entered s gs fs n u S P z y q x k b p moved out (Err Halted) h = absurd h

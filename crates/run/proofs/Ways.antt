@@ -1,8 +1,17 @@
 -- Traces taken one after the other.
-use Rattle.std.proofs.Common.{◌≡◌, ◌+◌, [], ◌∷◌, ◌++◌, length, sym, refl, ap, ◌∙◌, subst, append_assoc, arith, length-append, length-set}
+use Rattle.std.proofs.Common.{◌≡◌, ℕ, ◌+◌, [], ◌∷◌, ◌++◌, length, sym, refl, ap, ◌∙◌, subst, append_assoc, arith, length-append, length-set}
 use Rattle.meaning.specs.Traces.{width, took, Trace}
-use Rattle.run.specs.Ways.{Trail, Room, put, written, Way, Took, Fits, Halt}
+use Rattle.run.specs.Ways.{Trail, Room, put, written, Way, SameTrail, Took, Fits, Halt}
+use Rattle.run.specs.declared.trail.Trail.{Trail as TrailKept}
 use Rattle.run.proofs.Guides.{guided_join}
+
+-- the same lists after two calls, one after the other
+pub trails_join :
+    {G : Type 0} (fixed : G → ℕ) (a b c : TrailKept G)
+    → SameTrail fixed a b
+    → SameTrail fixed b c
+    → SameTrail fixed a c
+trails_join fixed a b c p q = (q.0 ∙ p.0, q.1 ∙ p.1, q.2 ∙ p.2, q.3 ∙ p.3, q.4 ∙ p.4)
 
 pub written_join : (z : Trail) (t u : Trace) → written z (t ++ u) ≡ written (written z t) u
 written_join z [] u = refl

@@ -1,11 +1,11 @@
 -- The loop over the goals, from its turns.
-use Rattle.std.proofs.Common.{◌≡◌, ℕ, ◌+◌, ◌*◌, ◌<◌, ◌≤◌, true, List, [], ◌∷◌, ◌++◌, length, get_or, set, sym, ap, ◌∙◌, subst, append_assoc, append-nil, arith, length-set, get_or-set_same}
+use Rattle.std.proofs.Common.{◌≡◌, ℕ, ◌+◌, ◌*◌, ◌<◌, ◌≤◌, true, List, [], ◌∷◌, ◌++◌, length, get_or, set, Err, Result, sym, ap, ◌∙◌, subst, append_assoc, append-nil, arith, length-set, get_or-set_same}
 use Rattle.formula.specs.Trees.{Formula, Rule}
 use Rattle.marks.specs.Sets.{Marks}
 use Rattle.marks.specs.Counted.{some}
-use Rattle.meaning.specs.Terms.{mark_line}
+use Rattle.meaning.specs.Terms.{mark_line, rules_of}
 use Rattle.meaning.specs.Lengths.{joins}
-use Rattle.meaning.specs.Matching.{State, live, Matches}
+use Rattle.meaning.specs.Matching.{State, live, dead, spent, Matches}
 use Rattle.meaning.specs.Pending.{goal, Solves, solved, load}
 use Rattle.meaning.specs.Pending.{Goal as Waiting}
 use Rattle.meaning.proofs.Pending.{alone}
@@ -14,10 +14,12 @@ use Rattle.sheet.specs.Table.{line_at}
 use Rattle.sheet.specs.Sheets.{tree_of}
 use Rattle.run.specs.declared.goal.Goal.{Goal}
 use Rattle.run.specs.declared.goal.Frame.{Frame}
+use Rattle.run.specs.declared.stop.Stop.{Stop}
+use Rattle.run.specs.declared.stop.Stop.TheVariants.{DeadEnd, Spent, Halted}
 use Rattle.run.specs.Frames.{arguments_of, FrameOkay}
 use Rattle.run.specs.Ways.{Way, Took, Halt, Fits}
-use Rattle.run.specs.Goals.{spot, pending, Stood, Fit, no_goal, no_frame, Leads, Solving}
-use Rattle.run.specs.Works.{Matching, Matched}
+use Rattle.run.specs.Goals.{Spot, spot, pending, Stood, Fit, no_goal, no_frame, Leads, Solving, Turned}
+use Rattle.run.specs.Works.{Matching, Matched, Worked}
 use Rattle.run.proofs.Ways.{took_map, took_none, took_join, halt_after, fits_after}
 use Rattle.run.proofs.Passing.{blank, blank_okay}
 use Rattle.run.proofs.Tables.{mark_is, line_joins}
@@ -100,6 +102,20 @@ module _ (rules : List Rule) (F : Formula) (n : ℕ) (S : Marks) (z : Way) where
         → Took y (λ v. Solves rules gs (live k P) v o) y'
         → Took z (λ v. Matches rules [] F true (live n S) v o) y'
     work_ends o y' h = took_join (λ t u m s. alone rules (m u o s)) whole h
+
+    -- the loop is left as its last turn is
+    pub work_stop :
+        (w : ℕ) (s : Sheet) (p : Spot) (r : Stop) (a : Result Unit Stop) (Q : Marks) (y' : Way)
+        → rules ≡ rules_of (tree_of s)
+        → a ≡ Err r
+        → Turned s gs k P y (Err r) p Q y'
+        → Worked w rules F n S z a Q y'
+    work_stop w s p DeadEnd a Q y' e is h = subst (λ q. Worked w rules F n S z q Q y') (sym is)
+        (work_ends dead y' (subst (λ R. Took y (λ v. Solves R gs (live k P) v dead) y') (sym e) h))
+    work_stop w s p Spent a Q y' e is h = subst (λ q. Worked w rules F n S z q Q y') (sym is)
+        (work_ends spent y' (subst (λ R. Took y (λ v. Solves R gs (live k P) v spent) y') (sym e) h))
+    work_stop w s p Halted a Q y' e is h = subst (λ q. Worked w rules F n S z q Q y') (sym is)
+        (work_halt y' (subst (λ R. Halt y (Solving R gs k P) y') (sym e) h))
 
     pub work_done : (w : ℕ) → some w P ≡ true → gs ≡ [] → Matched w rules F n S z P y
     work_done w l e = record {

@@ -1,6 +1,6 @@
 -- What a run along recorded entries answers, and when it is refused; and the same of a run by the numbers of a
 -- source.
-use Rattle.std.specs.Prelude.{◌≡◌, ℕ, ◌+◌, ◌*◌, ◌≤◌, true, ◌≢◌, ◌⊎◌, List, [], ◌∷◌, ◌++◌, length, take, drop, Ok, Err, Result}
+use Rattle.std.specs.Prelude.{◌≡◌, ℕ, ◌+◌, ◌*◌, ◌≤◌, true, ◌≢◌, ◌⊎◌, List, [], ◌∷◌, ◌++◌, length, take, drop, Some, None, Ok, Err, Option, Result}
 use Rattle.formula.specs.Trees.{Sheet}
 use Rattle.refusal.specs.declared.Refusal.{Refusal}
 use Rattle.refusal.specs.Table.{number}
@@ -12,7 +12,6 @@ use Rattle.run.specs.declared.answer.Ended.{Ended}
 use Rattle.run.specs.declared.answer.Ended.TheVariants.{Mark, DeadEnd, Spent}
 use Rattle.run.specs.declared.answer.Ran.{Ran}
 use Rattle.run.specs.declared.answer.Drew.{Drew}
-use Rattle.run.specs.declared.answer.Drew.TheVariants.{Whole, Dry}
 use Rattle.run.specs.Guides.{Guide, recorded, Guided, entries}
 use Rattle.meaning.specs.Draws.{Drawn, ran, dry, Draws}
 
@@ -126,6 +125,11 @@ pub data Barred (s : Setting) (given : ℕ) (l : Lists) (k : ℕ) : Type 0 where
       → (LongEnough s.fuel s.fields given l → ⊥)
       → Barred s given l k
 
+-- whether a run may begin
+abbrev pub Admits : {X : Type 0} → Setting → (given : ℕ) → Lists → Result X Refusal → Type 0
+Admits s given l (Ok x) = SameFields s × LongEnough s.fuel s.fields given l
+Admits s given l (Err e) = Barred s given l (number e) × (number e ≢ 14)
+
 -- 14: no run follows the given entries to their end
 pub record Unfit (s : Setting) (given : ℕ) (l : Lists) (k : ℕ) : Type 0 where
   pub number : k ≡ 14
@@ -156,15 +160,10 @@ Leaves starting before after (Ok a) = Inside after starting
 Leaves starting before after (Err e) =
     (number e ≡ 14 → Inside after starting) × (number e ≢ 14 → after ≡ before)
 
--- what a draw's answer tells: the outcome of a whole run, or dry
-abbrev pub drawn_of : Drew → (fields : ℕ) (marked : List ℕ) → Drawn
-drawn_of (Whole a) n m = ran (outcome_of a.ended n m)
-drawn_of (Dry k) n m = dry
-
--- how many entries its trace has
-abbrev pub length_of : Drew → ℕ
-length_of (Whole a) = a.length
-length_of (Dry k) = k
+-- what the end of a draw tells: the outcome of a whole run, or dry
+abbrev pub drawn_of : Option Ended → (fields : ℕ) (marked : List ℕ) → Drawn
+drawn_of (Some a) n m = ran (outcome_of a n m)
+drawn_of None n m = dry
 
 -- the mark list at the end of a draw
 abbrev pub drawn_filled : Drawn → List ℕ → List ℕ
@@ -176,9 +175,9 @@ pub record DrawsTo (s : Setting) (ns rest : List ℕ) (before : Lists) (a : Drew
   pub trace : Trace
   pub result : Drawn
   pub draw : Draws s.sheet s.fuel s.starting ns result trace rest
-  pub long : length_of a ≡ length trace
+  pub long : a.length ≡ length trace
   pub written : Written before trace after
-  pub told : drawn_of a s.fields after.mark ≡ result
+  pub told : drawn_of a.ended s.fields after.mark ≡ result
   pub marked : after.mark ≡ drawn_filled result before.mark
 
 -- what `draw` answers: the draw from the waiting numbers, or a refusal that takes none and leaves the lists

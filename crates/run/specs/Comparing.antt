@@ -47,9 +47,9 @@ pub record LeftAtMostOne (w : ℕ) (S : Marks) (a b : Argument) (z : Way) (P : M
   pub alive : some w P ≡ true
 
 -- at most one unknown field is left, or the run halted
-abbrev pub LeftOne : ℕ → Marks → Argument → Argument → Way → Bool → Marks → Way → Type 0
-LeftOne w S a b z true P y = LeftAtMostOne w S a b z P y
-LeftOne w S a b z false P y = Halt z (LeavingOne S a b) y
+abbrev pub LeftOne : ℕ → Marks → Argument → Argument → Way → Option Unit → Marks → Way → Type 0
+LeftOne w S a b z (Some u) P y = LeftAtMostOne w S a b z P y
+LeftOne w S a b z None P y = Halt z (LeavingOne S a b) y
 
 -- what a comparison with at most one unknown field leaves, and whether any mark is left
 abbrev pub Kept : ℕ → Marks → Comparison → Argument → Argument → Bool → Marks → Type 0

@@ -1,6 +1,6 @@
 -- For the contracts of inner functions: the stack as goals of the definitions, what the lists hold at each
 -- turn, and what one turn comes to.
-use Rattle.std.specs.Prelude.{◌≡◌, ℕ, zero, suc, ◌+◌, ◌-◌, ◌*◌, ◌<◌, ◌≤◌, Bool, true, false, not, ◌≢◌, ◌⊎◌, List, [], ◌∷◌, ◌++◌, map, length, take, Some, None, Option, slice_index_or, slice_set}
+use Rattle.std.specs.Prelude.{◌≡◌, ℕ, zero, suc, ◌+◌, ◌-◌, ◌*◌, ◌<◌, ◌≤◌, Bool, true, false, not, ◌≢◌, ◌⊎◌, List, [], ◌∷◌, ◌++◌, map, length, take, Some, None, Ok, Err, Option, Result, slice_index_or, slice_set}
 use Rattle.formula.specs.declared.Join.{Join}
 use Rattle.formula.specs.Trees.{Rule}
 use Rattle.formula.specs.Trees.{Term as TermTree}
@@ -19,9 +19,10 @@ use Rattle.sheet.specs.Keeping.{Within, size}
 use Rattle.sheet.specs.Sheets.{tree_of, sizes_of}
 use Rattle.run.specs.declared.goal.Goal.{Goal}
 use Rattle.run.specs.declared.goal.Frame.{Frame}
-use Rattle.run.specs.declared.turn.Depth.{Depth}
-use Rattle.run.specs.declared.turn.Turn.{Turn}
-use Rattle.run.specs.declared.turn.Turn.TheVariants.{Moved, Dead, Spent, Halted}
+use Rattle.run.specs.declared.stack.Depth.{Depth}
+use Rattle.run.specs.declared.stack.Stack.{Stack}
+use Rattle.run.specs.declared.stop.Stop.{Stop}
+use Rattle.run.specs.declared.stop.Stop.TheVariants.{DeadEnd, Spent, Halted}
 use Rattle.run.specs.declared.turn.Sides.{Sides}
 use Rattle.run.specs.declared.turn.Sides.TheVariants.{Left, Both}
 use Rattle.run.specs.Frames.{arguments_of, FrameOkay, TermOkay}
@@ -34,8 +35,8 @@ abbrev pub terms : List Term → ℕ → List TermTree
 terms ts n = map term_of (take n ts)
 
 -- at most four terms, in order for w fields and k parameters
-abbrev pub TermsOkay : (w k : ℕ) → List Term → ℕ → Type 0
-TermsOkay w k ts n = (n ≤ 4) × ((j : ℕ) → j < 4 → TermOkay w k (slice_index_or ts j (Number 0)))
+abbrev pub TermsOkay : (w k : ℕ) → List Term → Type 0
+TermsOkay w k ts = (length ts ≤ 4) × ((j : ℕ) → j < length ts → TermOkay w k (slice_index_or ts j (Number 0)))
 
 -- n terms from place i on
 abbrev pub from : List Term → ℕ → ℕ → List TermTree
@@ -85,6 +86,15 @@ pub record Spot : Type 0 where
 -- the spot of these three
 abbrev pub spot : List Goal → List Frame → Depth → Spot
 spot gs fs d = record { goals = gs; frames = fs; depth = d }
+
+-- the spot of a stack
+abbrev pub spot_of : Stack → Spot
+spot_of t = spot t.goals.now t.frames.now t.depth
+
+-- the same lists of goals and frames
+abbrev pub SameStack : (before after : Stack) → Type 0
+SameStack before after =
+    (after.goals.ghost_name ≡ before.goals.ghost_name) × (after.frames.ghost_name ≡ before.frames.ghost_name)
 
 -- a goal as one of the definitions
 abbrev pub goal_of : Sheet → List Frame → Goal → Waiting
@@ -149,11 +159,11 @@ pub record Moves (s : Sheet) (gs : List Waiting) (n : ℕ) (S : Marks) (z : Way)
   pub alive : some s.field_count P ≡ true
 
 -- what one turn comes to
-abbrev pub Turned : Sheet → List Waiting → ℕ → Marks → Way → Turn → Spot → Marks → Way → Type 0
-Turned s gs n S z Moved p P y = Moves s gs n S z p P y
-Turned s gs n S z Dead p P y = Took z (λ v. Solves (rules_of (tree_of s)) gs (live n S) v dead) y
-Turned s gs n S z Spent p P y = Took z (λ v. Solves (rules_of (tree_of s)) gs (live n S) v spent) y
-Turned s gs n S z Halted p P y = Halt z (Solving (rules_of (tree_of s)) gs n S) y
+abbrev pub Turned : Sheet → List Waiting → ℕ → Marks → Way → Result Unit Stop → Spot → Marks → Way → Type 0
+Turned s gs n S z (Ok d) p P y = Moves s gs n S z p P y
+Turned s gs n S z (Err DeadEnd) p P y = Took z (λ v. Solves (rules_of (tree_of s)) gs (live n S) v dead) y
+Turned s gs n S z (Err Spent) p P y = Took z (λ v. Solves (rules_of (tree_of s)) gs (live n S) v spent) y
+Turned s gs n S z (Err Halted) p P y = Halt z (Solving (rules_of (tree_of s)) gs n S) y
 
 -- Joins and calls
 
@@ -170,14 +180,14 @@ Sided j v w b z (Some (Both c)) y =
 
 -- a rule entered with the frame f: its formula waits with a frame of its own, and one fuel is spent; or
 -- none is left
-abbrev pub Entered : Frame → (formula : ℕ) → Bool → Spot → Turn → Spot → Type 0
-Entered f k b p Moved q =
+abbrev pub Entered : Frame → (formula : ℕ) → Bool → Spot → Result Unit Stop → Spot → Type 0
+Entered f k b p (Ok d) q =
     (0 < p.depth.fuel)
     × (q.goals
     ≡ slice_set p.goals p.depth.goals (record { formula = k; target = b; frame = p.depth.frames }))
     × (q.frames ≡ slice_set p.frames p.depth.frames f)
     × (q.depth
     ≡ record { goals = p.depth.goals + 1; frames = p.depth.frames + 1; fuel = p.depth.fuel - 1 })
-Entered f k b p Spent q = p.depth.fuel ≡ 0
-Entered f k b p Dead q = ⊥
-Entered f k b p Halted q = ⊥
+Entered f k b p (Err Spent) q = p.depth.fuel ≡ 0
+Entered f k b p (Err DeadEnd) q = ⊥
+Entered f k b p (Err Halted) q = ⊥

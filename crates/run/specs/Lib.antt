@@ -1,5 +1,8 @@
 pub mod Guides
+pub mod Ahead
+pub mod Past
 pub mod Answering
+pub mod Lists
 pub mod Ways
 pub mod Frames
 pub mod Settling

@@ -1,12 +1,11 @@
 -- For the contracts of inner functions: the trace lists and the guide of a run under way; that a part of it
 -- took a trace, or came to a choice at which no pick is told.
-use Rattle.std.specs.Prelude.{◌≡◌, ℕ, suc, ◌+◌, ◌-◌, ◌<◌, ◌≤◌, List, [], ◌∷◌, ◌++◌, length, Some, None, Option, slice_set}
+use Rattle.std.specs.Prelude.{◌≡◌, ℕ, suc, ◌+◌, ◌<◌, ◌≤◌, List, [], ◌∷◌, ◌++◌, length, Some, None, Option, slice_index, slice_set}
 use Rattle.meaning.specs.Traces.{Choice, among, branch, width, took, Trace}
 use Rattle.run.specs.declared.guide.Choice.{Choice as ChoiceMade}
 use Rattle.run.specs.declared.guide.Choice.TheVariants.{Among, Branch}
-use Rattle.run.specs.declared.guide.Guide.{Guide as GuideUsed}
-use Rattle.run.specs.declared.guide.Guide.TheVariants.{Recorded, Drawn}
-use Rattle.run.specs.Guides.{Guide, recorded, numbers, Picks, NoPick, Guided, entries}
+use Rattle.run.specs.declared.trail.Trail.{Trail as TrailKept}
+use Rattle.run.specs.Guides.{Guide, Picks, NoPick, Guided}
 
 -- the choice of the definitions
 abbrev pub choice_of : ChoiceMade → Choice
@@ -42,19 +41,27 @@ abbrev pub written : Trail → Trace → Trail
 written z [] = z
 written z (took p c ∷ t) = written (put z p (width c)) t
 
--- what guides a run on from place k: what is left of the given entries, or the numbers that wait
-abbrev pub ahead : GuideUsed → (picks widths : List ℕ) (k : ℕ) (waiting : List ℕ) → Guide
-ahead (Recorded given) ps ws k ns = recorded (entries ps ws k (given - k))
-ahead Drawn ps ws k ns = numbers ns
-
 -- a run under way: the trace so far, and what guides it on
 pub record Way : Type 0 where
   pub trail : Trail
   pub guide : Guide
 
--- the way from place k on
-abbrev pub way : GuideUsed → (picks widths : List ℕ) (k : ℕ) (waiting : List ℕ) → Way
-way g ps ws k ns = record { trail = trail ps ws k; guide = ahead g ps ws k ns }
+-- the way from place k on, by what guides it there
+abbrev pub way : ((picks widths : List ℕ) (k : ℕ) → Guide) → (picks widths : List ℕ) (k : ℕ) → Way
+way ahead ps ws k = record { trail = trail ps ws k; guide = ahead ps ws k }
+
+-- the way that a trail with its guide goes on
+abbrev pub way_of : {G : Type 0} → (G → (picks widths : List ℕ) (k : ℕ) → Guide) → TrailKept G → Way
+way_of ahead t = way (ahead t.guide) t.picks.now t.widths.now t.at
+
+-- the same lists, as long as before, and the same of the guide
+abbrev pub SameTrail : {G : Type 0} → (fixed : G → ℕ) → (before after : TrailKept G) → Type 0
+SameTrail fixed before after =
+    (after.picks.ghost_name ≡ before.picks.ghost_name)
+    × (after.widths.ghost_name ≡ before.widths.ghost_name)
+    × (length after.picks.now ≡ length before.picks.now)
+    × (length after.widths.now ≡ length before.widths.now)
+    × (fixed after.guide ≡ fixed before.guide)
 
 -- a trace of M was taken: the guide told its picks, and it is written at the end of the trail
 pub record Took (z : Way) (M : Trace → Type 0) (y : Way) : Type 0 where
@@ -77,17 +84,21 @@ pub record Halt (z : Way) (M : Trace → Type 0) (y : Way) : Type 0 where
   pub stuck : NoPick y.guide choice
   pub end : y.trail ≡ written z.trail before
 
--- the pick that is told at place k, or that none is
-abbrev pub Tells :
-    GuideUsed
-    → ChoiceMade
-    → (picks widths : List ℕ) (k : ℕ) (waiting : List ℕ)
+-- the pick that is told at place k, of what is told there and past it; or none, and the same is told there
+abbrev pub Tells : Choice → (k : ℕ) → (before : ℕ → Guide) → Option ℕ → (after : ℕ → Guide) → Type 0
+Tells c k before (Some p) after = (p < width c) × Picks (before k) c p (after (suc k))
+Tells c k before None after = NoPick (before k) c × (after k ≡ before k)
+
+-- the same, whatever lists have that entry at the place
+abbrev pub TellsAt :
+    Choice
+    → (k pick width : ℕ)
+    → (before : (picks widths : List ℕ) (k : ℕ) → Guide)
     → Option ℕ
-    → (rest : List ℕ)
+    → (after : (picks widths : List ℕ) (k : ℕ) → Guide)
     → Type 0
-Tells g c ps ws k ns (Some p) rest =
-    (p < width (choice_of c)) × Picks (ahead g ps ws k ns) (choice_of c) p (ahead g ps ws (suc k) rest)
-Tells g c ps ws k ns None rest = NoPick (ahead g ps ws k ns) (choice_of c) × (rest ≡ ns)
+TellsAt c k p w before r after =
+    (ps ws : List ℕ) → slice_index ps k ≡ p → slice_index ws k ≡ w → Tells c k (before ps ws) r (after ps ws)
 
 -- a choice made: one entry more, or nothing written
 abbrev pub Chosen : Choice → Way → Option ℕ → Way → Type 0

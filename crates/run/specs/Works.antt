@@ -1,13 +1,13 @@
 -- For the contracts of inner functions: what the loop over the goals, and the end of a run, come to.
-use Rattle.std.specs.Prelude.{◌≡◌, ℕ, true, List, [], ◌++◌, take, Some, None, Option}
+use Rattle.std.specs.Prelude.{◌≡◌, ℕ, true, List, [], ◌++◌, take, Some, None, Ok, Err, Option, Result}
 use Rattle.formula.specs.Trees.{Formula, Rule}
 use Rattle.marks.specs.Sets.{Marks}
 use Rattle.marks.specs.Counted.{some}
 use Rattle.meaning.specs.Traces.{Trace}
 use Rattle.meaning.specs.Matching.{State, live, dead, spent, Matches}
 use Rattle.meaning.specs.Runs.{Ends}
-use Rattle.run.specs.declared.turn.Turn.{Turn}
-use Rattle.run.specs.declared.turn.Turn.TheVariants.{Moved, Dead, Spent, Halted}
+use Rattle.run.specs.declared.stop.Stop.{Stop}
+use Rattle.run.specs.declared.stop.Stop.TheVariants.{DeadEnd, Spent, Halted}
 use Rattle.run.specs.Ways.{Way, Took, Halt}
 
 -- the traces of matching a formula with target true
@@ -22,11 +22,11 @@ pub record Matched (w : ℕ) (rules : List Rule) (F : Formula) (n : ℕ) (S : Ma
   pub alive : some w P ≡ true
 
 -- what the loop comes to
-abbrev pub Worked : ℕ → List Rule → Formula → ℕ → Marks → Way → Turn → Marks → Way → Type 0
-Worked w rules F n S z Moved P y = Matched w rules F n S z P y
-Worked w rules F n S z Dead P y = Took z (λ v. Matches rules [] F true (live n S) v dead) y
-Worked w rules F n S z Spent P y = Took z (λ v. Matches rules [] F true (live n S) v spent) y
-Worked w rules F n S z Halted P y = Halt z (Matching rules F n S) y
+abbrev pub Worked : ℕ → List Rule → Formula → ℕ → Marks → Way → Result Unit Stop → Marks → Way → Type 0
+Worked w rules F n S z (Ok d) P y = Matched w rules F n S z P y
+Worked w rules F n S z (Err DeadEnd) P y = Took z (λ v. Matches rules [] F true (live n S) v dead) y
+Worked w rules F n S z (Err Spent) P y = Took z (λ v. Matches rules [] F true (live n S) v spent) y
+Worked w rules F n S z (Err Halted) P y = Halt z (Matching rules F n S) y
 
 -- the traces of settling c fields from f on
 abbrev pub Ending : ℕ → ℕ → Marks → Trace → Type 0

@@ -15,9 +15,9 @@ pub struct Ran {
     pub length: usize,
 }
 
-// A whole run, or one that ran out of numbers after so many choices.
+// How a draw ended, or none where its numbers ran out, and how many entries its trace has.
 #[derive(Clone, Copy, PartialEq, Eq, Debug)]
-pub enum Drew {
-    Whole(Ran),
-    Dry(usize),
+pub struct Drew {
+    pub ended: Option<Ended>,
+    pub length: usize,
 }

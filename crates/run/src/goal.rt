@@ -1,14 +1,16 @@
 // What waits while a run goes on: goals, and what the parameters of a called rule stand for.
+ghost use Rattle.std.specs.Prelude.{◌≡◌, ℕ, ◌+◌, ◌<◌, slice_set};
 
 // What a name stands for in a run: a field, or a number.
-#[derive(Clone, Copy)]
+#[derive(Clone, Copy, Debug, PartialEq, Eq)]
 pub enum Argument {
     Field(u8),
     Number(u16),
 }
 
 // What the parameters of one call stand for, as many as `count`.
-#[derive(Clone, Copy)]
+// A plain record, since frames wait in the caller's list, which takes copies.
+#[derive(Clone, Copy, Debug, PartialEq, Eq)]
 pub struct Frame {
     pub arguments: [Argument; 4],
     pub count: u8,
@@ -20,10 +22,22 @@ impl Frame {
         arguments: [Argument::Number(0); 4],
         count: 0,
     };
+
+    // Adds what one more parameter stands for.
+    pub(crate) fn push(&mut self, argument: Argument)
+        requires { self.old.count < 4 }
+        ensures { self.new ≡ record {
+          arguments = slice_set self.old.arguments self.old.count argument;
+          count = self.old.count + 1;
+        } }
+    {
+        self.arguments[self.count as usize] = argument;
+        self.count += 1;
+    }
 }
 
 // A formula that waits to be matched: its entry in the sheet's table, its target, and its frame.
-#[derive(Clone, Copy)]
+#[derive(Clone, Copy, Debug, PartialEq, Eq)]
 pub struct Goal {
     pub formula: u8,
     pub target: bool,
@@ -37,4 +51,15 @@ impl Goal {
         target: false,
         frame: 0,
     };
+
+    // A part of its formula with that target, in the same frame.
+    pub(crate) fn part(self, formula: u8, target: bool) -> Goal
+        ensures { result ≡ record { formula = formula; target = target; frame = self.frame } }
+    {
+        Goal {
+            formula,
+            target,
+            frame: self.frame,
+        }
+    }
 }

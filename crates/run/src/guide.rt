@@ -1,20 +1,16 @@
-// What tells a run its picks, and the entries that it writes.
-ghost use Rattle.std.specs.Prelude.{◌≡◌, ℕ, ◌+◌, ◌<◌};
+// What tells a run its picks: entries recorded earlier, or the numbers of a source.
+ghost use Rattle.std.specs.Prelude.{◌≡◌, ℕ, suc, ◌+◌, ◌<◌, List, slice_set};
 ghost use Rattle.meaning.specs.Traces.{width as width_of};
 ghost use Rattle.meaning.specs.Draws.{drawn as drawn_by};
-ghost use Rattle.run.specs.Ways.{choice_of, Usable, Tells, trail, Room, way, Chosen};
+ghost use Rattle.run.specs.Guides.{Guide as Ahead};
+ghost use Rattle.run.specs.Ways.{choice_of, Usable, TellsAt};
+ghost use Rattle.run.specs.Ahead.{recorded_ahead, drawn_ahead};
+ghost use Rattle.run.specs.Past.{recorded_past, drawn_past};
 
 use source::Source;
 
-// The first entries of the trace lists, so many, or the numbers of a source.
-#[derive(Clone, Copy)]
-pub(crate) enum Guide {
-    Recorded(usize),
-    Drawn,
-}
-
 // A choice among so many numbers, or between two branches with their weights.
-#[derive(Clone, Copy)]
+#[derive(Clone, Copy, Debug, PartialEq, Eq)]
 pub(crate) enum Choice {
     Among(u16),
     Branch(u16, u16),
@@ -22,7 +18,7 @@ pub(crate) enum Choice {
 
 impl Choice {
     // How many picks there are.
-    fn width(self) -> u16
+    pub(crate) fn width(self) -> u16
         ensures { result ≡ width_of (choice_of self) }
     {
         match self {
@@ -48,64 +44,75 @@ impl Choice {
     }
 }
 
-impl Guide {
-    // The pick of a choice at that place of the trace lists, or none where no pick is told.
-    fn tell<R: Source>(
-        self,
-        choice: Choice,
-        picks: &[u16],
-        widths: &[u16],
-        at: usize,
-        source: &mut R,
-    ) -> Option<u16>
-        requires usable { Usable choice }
-        requires room { Room 1 (trail picks.now widths.now at) }
-        ensures { Tells self choice picks.now widths.now at
-            (R.waiting source.old) result (R.waiting source.new) }
-    {
-        match self {
-            Guide::Recorded(given) => {
-                if at >= given {
-                    return Some(0);
-                }
-                if widths[at] != choice.width() {
-                    return None;
-                }
-                if picks[at] >= choice.width() {
-                    return None;
-                }
-                Some(picks[at])
-            }
-            Guide::Drawn => match source.take() {
-                Some(number) => Some(choice.drawn(number)),
-                None => None,
-            },
+// One entry of both trace lists: a pick, and the width of its choice.
+#[derive(Clone, Copy, Debug, PartialEq, Eq)]
+pub(crate) struct Entry {
+    pub(crate) pick: u16,
+    pub(crate) width: u16,
+}
+
+// A guide tells the pick of each choice, one after the other.
+pub(crate) trait Guide {
+    // what it tells from a place of the trace lists on
+    ghost ahead: { Self → List ℕ → List ℕ → ℕ → Ahead };
+
+    // what no telling changes: how many entries were given, or which source it reads
+    ghost fixed: { Self → ℕ };
+
+    // The pick of a choice at that place of the trace lists, with the entry there; none where no pick is told.
+    fn tell(&mut self, choice: Choice, at: usize, entry: Entry) -> Option<u16>
+        requires { Usable choice }
+        ensures same { fixed self.new ≡ fixed self.old }
+        ensures told { TellsAt (choice_of choice) at entry.pick entry.width (ahead self.old) result
+            (ahead self.new) };
+
+    // an entry written at a place changes nothing that is told past it
+    ghost past: { (g : Self) → (ps ws : List ℕ) → (k p w : ℕ)
+        → ahead g (slice_set ps k p) (slice_set ws k w) (suc k) ≡ ahead g ps ws (suc k) };
+}
+
+// The first entries of the trace lists, so many, with pick 0 past them.
+#[derive(Clone, Copy, Debug, PartialEq, Eq)]
+pub(crate) struct Recorded {
+    pub(crate) given: usize,
+}
+
+impl Guide for Recorded {
+    ghost ahead = { λ g. recorded_ahead g.given };
+
+    ghost fixed = { λ g. g.given };
+
+    ghost past = { λ g. recorded_past g.given };
+
+    fn tell(&mut self, choice: Choice, at: usize, entry: Entry) -> Option<u16> {
+        if at >= self.given {
+            return Some(0);
         }
+        if entry.width != choice.width() {
+            return None;
+        }
+        if entry.pick >= choice.width() {
+            return None;
+        }
+        Some(entry.pick)
     }
 }
 
-// Makes a choice: writes its pick and its width at the end of the trace, or writes nothing where no pick is told.
-pub(crate) fn choose<R: Source>(
-    choice: Choice,
-    picks: &mut [u16],
-    widths: &mut [u16],
-    at: &mut usize,
-    guide: Guide,
-    source: &mut R,
-) -> Option<u16>
-    requires usable { Usable choice }
-    requires room { Room 1 (trail picks.old widths.old at.old) }
-    ensures { Chosen (choice_of choice)
-        (way guide picks.old widths.old at.old (R.waiting source.old))
-        result
-        (way guide picks.new widths.new at.new (R.waiting source.new)) }
-{
-    let k = *at;
-    let Some(pick) = guide.tell(choice, picks, widths, k, source) else {
-        return None;
-    };
-    picks[k] = pick;
-    widths[k] = choice.width();
-    *at = k + 1;
-    Some(pick)
+// The numbers of a source, one for each choice.
+#[derive(Drop)]
+pub(crate) struct Drawn<'a, R> {
+    pub(crate) source: &'a mut R,
+}
+
+impl<R: Source> Guide for Drawn<'_, R> {
+    ghost ahead = { λ g. drawn_ahead (R.waiting g.source.now) };
+
+    ghost fixed = { λ g. g.source.ghost_name };
+
+    ghost past = { λ g. drawn_past (R.waiting g.source.now) };
+
+    fn tell(&mut self, choice: Choice, _: usize, _: Entry) -> Option<u16> {
+        let number = self.source.take()?;
+        Some(choice.drawn(number))
+    }
 }

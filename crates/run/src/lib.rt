@@ -1,7 +1,7 @@
 // Runs of a sheet over any store: along recorded picks, or by the numbers of a source.
 #![tactic(auto)]
 
-mod admit;
+pub mod admit;
 mod along;
 pub mod answer;
 mod argument;
@@ -11,8 +11,12 @@ mod finish;
 pub mod follow;
 pub mod goal;
 mod guide;
+pub mod lists;
 mod pass;
 mod report;
 mod settle;
+mod stack;
+mod stop;
+mod trail;
 mod turn;
 mod work;

@@ -2,63 +2,52 @@
 ghost use Rattle.std.specs.Prelude.{◌≡◌, ℕ, ◌<◌, true, length};
 ghost use Rattle.marks.specs.Counted.{some, values};
 ghost use Rattle.run.specs.Frames.{Okay, argument_of};
-ghost use Rattle.run.specs.Ways.{way, Fits};
+ghost use Rattle.run.specs.Ways.{way_of, SameTrail, Fits};
 ghost use Rattle.run.specs.Settling.{Narrows, Settled, Settling, KeepsValue};
 
 use crate::goal::Argument;
-use crate::guide::{Choice, Guide, choose};
+use crate::guide::{Choice, Guide};
+use crate::trail::Trail;
 use formula::Comparison;
-use source::Source;
 use store::Store;
 
-// Keeps the k-th number of a field, and answers it.
-fn keep_value<S: Store>(store: &mut S, field: usize, k: usize) -> Option<u16>
+// Keeps the number at a place among the numbers of a field, and answers it.
+fn keep_value<S: Store>(store: &mut S, field: usize, place: usize) -> Option<u16>
     requires field { field < S.width store.old }
-    requires inside { k < length (values (S.width store.old) (S.current store.old) field) }
+    requires inside { place < length (values (S.width store.old) (S.current store.old) field) }
     ensures same { Narrows S.width S.starting S.current store.old store.new }
-    ensures left { KeepsValue (S.width store.old) (S.current store.old) field k result
+    ensures left { KeepsValue (S.width store.old) (S.current store.old) field place result
         (S.current store.new) }
 {
-    match store.value(field, k) {
-        Some(v) => {
-            let _ = store.keep(field, Comparison::Equal, v);
-            Some(v)
-        }
-        None => None,
-    }
+    let value = store.value(field, place)?;
+    let _ = store.keep(field, Comparison::Equal, value);
+    Some(value)
 }
 
 // Settles what a name stands for; none where no pick is told.
-pub(crate) fn settle<S: Store, R: Source>(
+pub(crate) fn settle<S: Store, G: Guide>(
     store: &mut S,
-    a: Argument,
-    picks: &mut [u16],
-    widths: &mut [u16],
-    at: &mut usize,
-    guide: Guide,
-    source: &mut R,
+    argument: Argument,
+    trail: &mut Trail<'_, G>,
 ) -> Option<u16>
-    requires okay { Okay (S.width store.old) a }
+    requires okay { Okay (S.width store.old) argument }
     requires some { some (S.width store.old) (S.current store.old) ≡ true }
-    requires room { Fits (way guide picks.old widths.old at.old (R.waiting source.old))
-        (Settling (S.current store.old) (argument_of a)) }
+    requires room { Fits (way_of G.ahead trail.old)
+        (Settling (S.current store.old) (argument_of argument)) }
     ensures same { Narrows S.width S.starting S.current store.old store.new }
-    ensures left { Settled (S.width store.old) (S.current store.old) a
-        (way guide picks.old widths.old at.old (R.waiting source.old))
-        result (S.current store.new)
-        (way guide picks.new widths.new at.new (R.waiting source.new)) }
+    ensures lists { SameTrail G.fixed trail.old trail.new }
+    ensures left { Settled (S.width store.old) (S.current store.old) argument
+        (way_of G.ahead trail.old) result (S.current store.new) (way_of G.ahead trail.new) }
 {
-    match a {
-        Argument::Number(n) => Some(n),
-        Argument::Field(f) => {
-            let c = store.count(f as usize);
-            if c == 1 {
-                return store.value(f as usize, 0);
+    match argument {
+        Argument::Number(number) => Some(number),
+        Argument::Field(field) => {
+            let count = store.count(field as usize);
+            if count == 1 {
+                return store.value(field as usize, 0);
             }
-            match choose(Choice::Among(c as u16), picks, widths, at, guide, source) {
-                Some(k) => keep_value(store, f as usize, k as usize),
-                None => None,
-            }
+            let place = trail.choose(Choice::Among(count as u16))?;
+            keep_value(store, field as usize, place as usize)
         }
     }
 }

@@ -5,6 +5,7 @@ ghost use Rattle.sheet.specs.Table.{mark_line};
 
 use crate::node::{Line, Node, Range};
 
+// Counts stand beside the arrays that they count, since a sheet is fixed memory and no call allocates.
 #[derive(Drop)]
 pub struct Sheet {
     pub ranges: [Range; 8],

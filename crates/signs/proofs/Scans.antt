@@ -1,12 +1,17 @@
 -- From places in a text to the bytes that begin there.
-use Rattle.std.proofs.Common.{◌≡◌, ℕ, ◌+◌, ◌-◌, ◌*◌, ◌^◌, ◌<◌, ◌≤◌, Bool, true, false, List, [], ◌∷◌, ◌++◌, length, get_or, take, drop, Some, None, sym, refl, ap, ◌∙◌, subst, pow-suc, add-one, arith}
+use Rattle.std.proofs.Common.{◌≡◌, ℕ, ◌+◌, ◌-◌, ◌*◌, ◌^◌, ◌<◌, ◌≤◌, Bool, true, false, List, [], ◌∷◌, ◌++◌, length, get_or, take, drop, Some, None, Err, sym, refl, ap, ◌∙◌, subst, pow-suc, add-one, arith}
 use Rattle.std.proofs.ByRecursion.{All-from_get_or}
-use Rattle.std.proofs.lemmas.List.{drop_more, drop-drop, take-append-drop, length-take-le, length-drop, get_or-take, get_or-drop, take_at, drop_at, drop_all, length-append}
+use Rattle.std.proofs.lemmas.List.{drop_more, drop-drop, take-append-drop, length-take-le, length-drop, get_or-take, get_or-drop, take_at, take_all, drop_at, drop_all, length-append}
+use Rattle.std.proofs.lemmas.List.Sums.{prefix_len-le-length, prefix_len_passes, prefix_len_stops}
+use Rattle.std.proofs.lemmas.List.Folds.{length-prefix_len}
+use Rattle.std.specs.List.{prefix_len, take_while}
+use Rattle.refusal.specs.declared.Fault.{Fault}
+use Rattle.refusal.specs.declared.Refusal.TheVariants.{OverLimit}
 use Rattle.signs.specs.declared.token.Sign.{Sign}
 use Rattle.signs.specs.Bytes.{letter, digit, alphanumeric, blank, value}
-use Rattle.signs.specs.Tokens.{word, number, sign, sign_bytes, Takes}
-use Rattle.signs.specs.Cutting.{FaultHere, nothing_begins}
-use Rattle.signs.specs.Scanning.{part, Run, LongestSign}
+use Rattle.signs.specs.Tokens.{Tok, word, number, sign, sign_bytes, Takes, Within}
+use Rattle.signs.specs.Cutting.{FaultHere, nothing_begins, over_limit}
+use Rattle.signs.specs.Scanning.{part, Run, LongestSign, Stands}
 use Rattle.signs.proofs.Spelling.{Front, takes_word, takes_number, takes_sign, no_spelling}
 
 -- the bytes from p on are those from p to q, and those from q on
@@ -124,3 +129,35 @@ two_here text p h =
 
 pub last_here : (text : List ℕ) (p : ℕ) → p < length text → length text ≤ p + 1 → drop p text ≡ get_or text p 0 ∷ []
 last_here text p h k = drop_more text p 0 h ∙ ap (λ l. get_or text p 0 ∷ l) (drop_all (p + 1) text k)
+
+-- the longest front of a text's end that passes, as a run of the text
+pub run_at :
+    (test : ℕ → Bool) (text : List ℕ) (p n : ℕ) → p ≤ length text
+    → n ≡ length (take_while test (part text p (length text))) → Run test text p (p + n)
+run_at test text p n h counted =
+    let rest = drop p text in
+    let long = length-drop p text in
+    let whole : part text p (length text) ≡ rest = take_all (length text - p) rest (omega (arith, long)) in
+    let e : n ≡ prefix_len test rest =
+    counted ∙ ap (λ l. length (take_while test l)) whole ∙ length-prefix_len test rest in
+    let short = prefix_len-le-length test rest in
+    record {
+      from = omega arith;
+      within = omega (arith, short, long);
+      all = λ k from less.
+          let m : p + (k - p) ≡ k = omega arith in
+          sym (ap test (get_or-drop p text (k - p) 0 ∙ ap (λ i. get_or text i 0) m))
+          ∙ prefix_len_passes test rest (k - p) 0 (omega arith);
+      stops = λ less.
+          sym (ap test (get_or-drop p text n 0))
+          ∙ ap (λ i. test (get_or rest i 0)) e ∙ prefix_len_stops test rest 0 (omega (arith, long));
+    }
+
+-- a token over its limit is the fault where it stands
+pub over_here :
+    (text : List ℕ) {w rest : List ℕ} (p : ℕ) {t : Tok} {f : Fault}
+    → f ≡ record { refusal = OverLimit; place = p }
+    → Takes (drop p text) t w rest
+    → (Within t w → ⊥)
+    → Stands text p (Err f)
+over_here text p e takes over = subst (λ f. Stands text p (Err f)) (sym e) (refl, over_limit takes over)

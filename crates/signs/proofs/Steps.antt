@@ -1,13 +1,13 @@
 -- From what stands at a place to what comes next in the text.
-use Rattle.std.proofs.Common.{◌≡◌, ℕ, ◌+◌, ◌≤◌, List, [], ◌∷◌, ◌++◌, length, drop, sym, ap, ◌∙◌, subst, arith}
+use Rattle.std.proofs.Common.{◌≡◌, ℕ, ◌+◌, ◌≤◌, List, [], ◌∷◌, ◌++◌, length, drop, Ok, Err, sym, ap, ◌∙◌, subst, arith}
 use Rattle.std.proofs.lemmas.List.{drop_all}
+use Rattle.refusal.specs.declared.Fault.{Fault}
 use Rattle.refusal.specs.Table as table
-use Rattle.signs.specs.declared.token.Next.{Next}
-use Rattle.signs.specs.declared.token.Next.TheVariants as next
+use Rattle.signs.specs.declared.token.Placed.{Placed}
 use Rattle.signs.specs.Bytes.{blank, Only}
 use Rattle.signs.specs.Tokens.{TokAt, at}
 use Rattle.signs.specs.Cutting.{Cut, stop, gap, token, FaultHere}
-use Rattle.signs.specs.Answers.{spelt, placed, NoToken, Follows}
+use Rattle.signs.specs.Answers.{spelt, placed, NextToken, NoToken, NextFault}
 use Rattle.signs.specs.Scanning.{part, Run, Stands}
 use Rattle.signs.proofs.Scans.{run_front, length_part}
 use Rattle.signs.proofs.Once.{Ends, at_end, at_fault, gap_back, token_back, cut_once, fault_some}
@@ -62,8 +62,8 @@ pub past_end : (text : List ℕ) (p : ℕ) → length text ≤ p → NoToken tex
 past_end text p h = no_token text p p (here text p h) h
 
 -- what stands at the place that blanks lead to
-pub follows : (text : List ℕ) (p b : ℕ) (r : Next) → Reached text p b → Stands text b r → Follows text p r
-follows text p b (next.Token t) r s =
+pub token_follows : (text : List ℕ) (p b : ℕ) (t : Placed) → Reached text p b → Stands text b (Ok t) → NextToken text p t
+token_follows text p b t r s =
     let n : b + length (part text b t.end) ≡ t.end = omega (arith, length_part text b t.end (omega (arith, s.2)) s.1, s.2) in
     let put : (ts : List TokAt) (rest : List ℕ) → Cut t.end (drop t.end text) ts rest → Cut p (drop p text) (placed t ∷ ts) rest =
     λ ts rest c. r.on (placed t ∷ ts) rest
@@ -79,8 +79,9 @@ follows text p b (next.Token t) r s =
           (back.0, back.1 ∙ ap (λ k. at (spelt t.token) k ∷ back.0) (sym s.0), moved n back.2);
       refused = λ m q x. record { before = placed t ∷ x.before; cut = put x.before (drop q text) x.cut; fault = x.fault };
     }
-follows text p b next.End r s = absurd s
-follows text p b (next.Fault f) r s =
+
+pub fault_follows : (text : List ℕ) (p b : ℕ) (f : Fault) → Reached text p b → Stands text b (Err f) → NextFault text p f
+fault_follows text p b f r s =
     let m = table.number f.refusal in
     let fault = subst (λ k. FaultHere (drop k text) m) (sym s.0) s.1 in
     let cut = subst (λ k. Cut p (drop p text) [] (drop k text)) (sym s.0) (r.on [] (drop b text) stop) in

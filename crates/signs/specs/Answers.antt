@@ -1,12 +1,10 @@
 -- What the answers of the public calls say of a text.
-use Rattle.std.specs.Prelude.{◌≡◌, ℕ, ◌<◌, ◌≤◌, Bool, true, false, List, [], ◌∷◌, length, Ok, Err, count_by, Result}
+use Rattle.std.specs.Prelude.{◌≡◌, ℕ, ◌<◌, ◌≤◌, Bool, true, false, List, [], ◌∷◌, length, Some, None, Option, Ok, Err, count_by, Result}
 use Rattle.refusal.specs.declared.Fault.{Fault}
 use Rattle.refusal.specs.Table as table
 use Rattle.signs.specs.declared.token.Token.{Token}
 use Rattle.signs.specs.declared.token.Token.TheVariants as token
 use Rattle.signs.specs.declared.token.Placed.{Placed}
-use Rattle.signs.specs.declared.token.Next.{Next}
-use Rattle.signs.specs.declared.token.Next.TheVariants as next
 use Rattle.signs.specs.declared.counts.TokenCounts.{TokenCounts}
 use Rattle.signs.specs.Tokens.{Tok, word, number, sign, TokAt, at}
 use Rattle.signs.specs.Cutting.{CutFrom, RefusedFrom, Tokenized, Refused}
@@ -41,10 +39,10 @@ pub record NextFault (text : List ℕ) (p : ℕ) (f : Fault) : Type 0 where
   pub uncut : (ts : List TokAt) → CutFrom text p ts → ⊥
 
 -- what comes next from place p on
-abbrev pub Follows : List ℕ → ℕ → Next → Type 0
-Follows text p (next.Token t) = NextToken text p t
-Follows text p next.End = NoToken text p
-Follows text p (next.Fault f) = NextFault text p f
+abbrev pub Follows : List ℕ → ℕ → Result (Option Placed) Fault → Type 0
+Follows text p (Ok (Some t)) = NextToken text p t
+Follows text p (Ok None) = NoToken text p
+Follows text p (Err f) = NextFault text p f
 
 -- whether a token is a word
 abbrev pub is_word : Tok → Bool

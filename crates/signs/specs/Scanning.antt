@@ -1,12 +1,12 @@
 -- What the inner functions of the cutter promise each other; no public call cites this file.
-use Rattle.std.specs.Prelude.{◌≡◌, ℕ, ◌+◌, ◌<◌, ◌≤◌, Bool, true, false, cond, List, ◌++◌, length, drop, Some, None, Option, ◌≢◌, slice_index, slice_range}
+use Rattle.std.specs.Prelude.{◌≡◌, ℕ, ◌+◌, ◌<◌, ◌≤◌, Bool, true, false, cond, List, ◌++◌, length, drop, Some, None, Option, Ok, Err, Result, ◌≢◌, slice_index, slice_range}
+use Rattle.refusal.specs.declared.Fault.{Fault}
 use Rattle.refusal.specs.Table as table
 use Rattle.signs.specs.declared.byte.Class.{Class}
 use Rattle.signs.specs.declared.byte.Class.TheVariants.{Blank, Letter, Digit, Alphanumeric}
 use Rattle.signs.specs.declared.counts.TokenCounts.{TokenCounts}
 use Rattle.signs.specs.declared.token.Sign.{Sign}
-use Rattle.signs.specs.declared.token.Next.{Next}
-use Rattle.signs.specs.declared.token.Next.TheVariants as next
+use Rattle.signs.specs.declared.token.Placed.{Placed}
 use Rattle.signs.specs.Bytes.{letter, digit, alphanumeric, blank}
 use Rattle.signs.specs.Tokens.{Tok, sign_bytes, Takes, Within}
 use Rattle.signs.specs.Cutting.{FaultHere}
@@ -47,12 +47,11 @@ pub record OneMore (t : Tok) (before after : TokenCounts) : Type 0 where
   pub signs : after.signs ≡ before.signs + cond (is_sign t) 1 0
 
 -- the token that stands at place p, or the fault there
-abbrev pub Stands : List ℕ → ℕ → Next → Type 0
-Stands text p (next.Token t) =
+abbrev pub Stands : List ℕ → ℕ → Result Placed Fault → Type 0
+Stands text p (Ok t) =
     (t.place ≡ p)
     × (t.end ≤ length text)
     × (p < t.end)
     × Takes (drop p text) (spelt t.token) (part text p t.end) (drop t.end text)
     × Within (spelt t.token) (part text p t.end)
-Stands text p next.End = ⊥
-Stands text p (next.Fault f) = (f.place ≡ p) × FaultHere (drop p text) (table.number f.refusal)
+Stands text p (Err f) = (f.place ≡ p) × FaultHere (drop p text) (table.number f.refusal)

@@ -1,5 +1,6 @@
 // Classes of bytes, and how far a run of one class goes.
 ghost use Rattle.std.specs.Prelude.{◌≡◌, ◌≤◌, length};
+ghost use Rattle.std.specs.List.{take_while};
 ghost use Rattle.signs.specs.Scanning.{has, Run};
 
 #[derive(Clone, Copy)]
@@ -15,10 +16,10 @@ impl Class {
         ensures { result ≡ has self byte }
     {
         match self {
-            Class::Blank => byte == b' ' || byte == b'\n',
-            Class::Letter => byte >= b'a' && byte <= b'z',
-            Class::Digit => byte >= b'0' && byte <= b'9',
-            Class::Alphanumeric => (byte >= b'a' && byte <= b'z') || (byte >= b'0' && byte <= b'9'),
+            Class::Blank => matches!(byte, b' ' | b'\n'),
+            Class::Letter => byte.is_ascii_lowercase(),
+            Class::Digit => byte.is_ascii_digit(),
+            Class::Alphanumeric => byte.is_ascii_lowercase() || byte.is_ascii_digit(),
         }
     }
 
@@ -27,10 +28,13 @@ impl Class {
         requires { from ≤ length text.now }
         ensures { Run (has self) text.now from result }
     {
-        let mut end = from;
-        while end < text.len() && self.has(text[end]) {
-            end += 1;
-        }
-        end
+        from + self.front(&text[from..])
+    }
+
+    // How many bytes of this class the text begins with.
+    fn front(self, text: &[u8]) -> usize
+        ensures { result ≡ length (take_while (has self) text.now) }
+    {
+        text.iter().take_while(|byte| self.has(**byte)).count()
     }
 }

@@ -5,10 +5,10 @@ ghost use Rattle.signs.specs.Laws.{OneVerdict, PutTogether};
 ghost use Rattle.signs.specs.Scanning.{OneMore};
 
 use crate::cut::next;
-use crate::token::{Next, Token};
+use crate::token::Token;
 use refusal::{Fault, Refusal};
 
-#[derive(Clone, Copy)]
+#[derive(Clone, Copy, PartialEq, Eq, Debug, Default)]
 pub struct TokenCounts {
     pub words: u64,
     pub numbers: u64,
@@ -17,17 +17,15 @@ pub struct TokenCounts {
 
 impl TokenCounts {
     // One token more.
-    fn count(self, token: Token) -> TokenCounts
-        requires { self.words + self.numbers + self.signs < 32768 }
-        ensures { OneMore (spelt token.entry) self result }
+    fn count(&mut self, token: Token)
+        requires { self.old.words + self.old.numbers + self.old.signs < 32768 }
+        ensures { OneMore (spelt token.entry) self.old self.new }
     {
-        let mut counts = self;
         match token {
-            Token::Word(_) => counts.words += 1,
-            Token::Number(_) => counts.numbers += 1,
-            Token::Sign(_) => counts.signs += 1,
+            Token::Word(_) => self.words += 1,
+            Token::Number(_) => self.numbers += 1,
+            Token::Sign(_) => self.signs += 1,
         }
-        counts
     }
 }
 
@@ -43,20 +41,11 @@ pub fn survey(text: &[u8]) -> Result<TokenCounts, Fault>
             place: 32768,
         });
     }
-    let mut found = TokenCounts {
-        words: 0,
-        numbers: 0,
-        signs: 0,
-    };
+    let mut found = TokenCounts::default();
     let mut at = 0;
-    'tokens: loop {
-        match next(text, at) {
-            Next::Token(t) => {
-                found = found.count(t.token);
-                at = t.end;
-            }
-            Next::End => return Ok(found),
-            Next::Fault(f) => return Err(f),
-        }
+    'tokens: while let Some(next) = next(text, at)? {
+        found.count(next.token);
+        at = next.end;
     }
+    Ok(found)
 }

@@ -1,118 +1,112 @@
 // The token that comes next in a text.
 ghost use Rattle.std.specs.Prelude.{◌≡◌, ◌+◌, ◌<◌, ◌≤◌, true, false, [], ◌∷◌, length, drop, slice_index};
-ghost use Rattle.signs.specs.Bytes.{letter, digit, blank, value};
+ghost use Rattle.refusal.specs.declared.Refusal.TheVariants.{OverLimit};
+ghost use Rattle.signs.specs.Bytes.{letter, digit, blank, value, Only};
 ghost use Rattle.signs.specs.Tokens.{sign_bytes};
 ghost use Rattle.signs.specs.Answers.{Follows};
-ghost use Rattle.signs.specs.Scanning.{Run, part, SpeltBy, LongestSign, Stands};
+ghost use Rattle.signs.specs.Scanning.{SpeltBy, LongestSign, Stands};
 
 use crate::byte::Class;
-use crate::token::{Next, Placed, Sign, Token};
+use crate::token::{Placed, Sign, Token};
 use formula::Comparison;
 use refusal::{Fault, Refusal};
 
-// What comes next in the text from `from` on.
-pub fn next<'a>(text: &'a [u8], from: usize) -> Next<'a>
+// The token that comes next in the text from `from` on, or none where only blanks are left.
+pub fn next<'a>(text: &'a [u8], from: usize) -> Result<Option<Placed<'a>>, Fault>
     ensures { Follows text.now from result }
 {
     if from >= text.len() {
-        return Next::End;
+        return Ok(None);
     }
     let place = Class::Blank.run_end(text, from);
     if place >= text.len() {
-        return Next::End;
+        return Ok(None);
     }
-    stands(text, place)
+    Ok(Some(stands(text, place)?))
 }
 
 // The token or the fault at a byte that is no blank.
-fn stands<'a>(text: &'a [u8], place: usize) -> Next<'a>
+fn stands<'a>(text: &'a [u8], place: usize) -> Result<Placed<'a>, Fault>
     requires inside { place < length text.now }
     requires solid { blank (slice_index text.now place) ≡ false }
     ensures { Stands text.now place result }
 {
     let byte = text[place];
     if Class::Letter.has(byte) {
-        return word(text, place);
+        word(text, place)
+    } else if Class::Digit.has(byte) {
+        number(text, place)
+    } else {
+        sign(text, place)
     }
-    if Class::Digit.has(byte) {
-        return number(text, place);
-    }
-    sign(text, place)
 }
 
-fn word<'a>(text: &'a [u8], place: usize) -> Next<'a>
+fn word<'a>(text: &'a [u8], place: usize) -> Result<Placed<'a>, Fault>
     requires inside { place < length text.now }
     requires begins { letter (slice_index text.now place) ≡ true }
     ensures { Stands text.now place result }
 {
     let end = Class::Alphanumeric.run_end(text, place);
     if end - place > 16 {
-        return Next::Fault(Fault {
-            refusal: Refusal::OverLimit,
-            place,
-        });
+        return Err(over_limit(place));
     }
     let token = Token::Word(&text[place..end]);
-    Next::Token(Placed { token, place, end })
+    Ok(Placed { token, place, end })
 }
 
-fn number<'a>(text: &'a [u8], place: usize) -> Next<'a>
+fn number<'a>(text: &'a [u8], place: usize) -> Result<Placed<'a>, Fault>
     requires inside { place < length text.now }
     requires begins { digit (slice_index text.now place) ≡ true }
     ensures { Stands text.now place result }
 {
     let end = Class::Digit.run_end(text, place);
     if end - place > 4 {
-        return Next::Fault(Fault {
-            refusal: Refusal::OverLimit,
-            place,
-        });
+        return Err(over_limit(place));
     }
-    let n = decimal(text, place, end);
+    let n = decimal(&text[place..end]);
     if n > 1023 {
-        return Next::Fault(Fault {
-            refusal: Refusal::OverLimit,
-            place,
-        });
+        return Err(over_limit(place));
     }
     let token = Token::Number(n);
-    Next::Token(Placed { token, place, end })
+    Ok(Placed { token, place, end })
 }
 
-// The number that the digits from `place` to `end` write.
-fn decimal(text: &[u8], place: usize, end: usize) -> u16
-    requires run { Run digit text.now place end }
-    requires few { end ≤ place + 4 }
-    ensures { result ≡ value (part text.now place end) }
+fn over_limit(place: usize) -> Fault
+    ensures { result ≡ record { refusal = OverLimit; place = place } }
+{
+    Fault {
+        refusal: Refusal::OverLimit,
+        place,
+    }
+}
+
+// The number that the digits write.
+fn decimal(digits: &[u8]) -> u16
+    requires digits { Only digit digits.now }
+    requires few { length digits.now ≤ 4 }
+    ensures { result ≡ value digits.now }
 {
     let mut n: u16 = 0;
-    for i in place..end {
-        n = n * 10 + (text[i] - b'0') as u16;
+    for byte in digits {
+        n = n * 10 + u16::from(*byte - b'0');
     }
     n
 }
 
-fn sign<'a>(text: &'a [u8], place: usize) -> Next<'a>
+fn sign<'a>(text: &'a [u8], place: usize) -> Result<Placed<'a>, Fault>
     requires inside { place < length text.now }
     requires solid { blank (slice_index text.now place) ≡ false }
     requires wordless { letter (slice_index text.now place) ≡ false }
     requires numberless { digit (slice_index text.now place) ≡ false }
     ensures { Stands text.now place result }
 {
-    match longest_sign(text, place) {
-        Some(s) => {
-            let end = place + size(s);
-            Next::Token(Placed {
-                token: Token::Sign(s),
-                place,
-                end,
-            })
-        }
-        None => Next::Fault(Fault {
-            refusal: Refusal::ByteNotPermitted,
-            place,
-        }),
-    }
+    let sign = longest_sign(text, place).ok_or(Fault {
+        refusal: Refusal::ByteNotPermitted,
+        place,
+    })?;
+    let end = place + sign.size();
+    let token = Token::Sign(sign);
+    Ok(Placed { token, place, end })
 }
 
 fn longest_sign(text: &[u8], place: usize) -> Option<Sign>
@@ -127,7 +121,7 @@ fn longest_sign(text: &[u8], place: usize) -> Option<Sign>
     single(text[place])
 }
 
-// The sign that is spelt by one byte.
+// The sign that is spelt by one byte. An Option and no TryFrom, since a byte that spells none is no error yet.
 fn single(byte: u8) -> Option<Sign>
     ensures { SpeltBy (byte ∷ []) result }
 {
@@ -161,12 +155,14 @@ fn double(first: u8, second: u8) -> Option<Sign>
     }
 }
 
-// How many bytes spell a sign.
-fn size(s: Sign) -> usize
-    ensures { result ≡ length (sign_bytes s) }
-{
-    match s {
-        Sign::Compare(Comparison::Differ | Comparison::AtMost | Comparison::AtLeast) => 2,
-        _ => 1,
+impl Sign {
+    // How many bytes spell the sign.
+    fn size(self) -> usize
+        ensures { result ≡ length (sign_bytes self) }
+    {
+        match self {
+            Sign::Compare(Comparison::Differ | Comparison::AtMost | Comparison::AtLeast) => 2,
+            _ => 1,
+        }
     }
 }

@@ -8,4 +8,4 @@ mod token;
 
 pub use counts::{TokenCounts, survey};
 pub use cut::next;
-pub use token::{Next, Placed, Sign, Token};
+pub use token::{Placed, Sign, Token};

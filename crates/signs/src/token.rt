@@ -1,8 +1,7 @@
 // Tokens: words, numbers and signs. A word borrows the text's own bytes.
 use formula::Comparison;
-use refusal::Fault;
 
-#[derive(Clone, Copy)]
+#[derive(Clone, Copy, PartialEq, Eq, Debug)]
 pub enum Sign {
     Open,
     Close,
@@ -14,7 +13,7 @@ pub enum Sign {
     Compare(Comparison),
 }
 
-#[derive(Clone, Copy)]
+#[derive(Clone, Copy, PartialEq, Eq, Debug)]
 pub enum Token<'a> {
     Word(&'a [u8]),
     Number(u16),
@@ -22,17 +21,9 @@ pub enum Token<'a> {
 }
 
 // A token with the offsets of its first byte and of the byte after its last.
-#[derive(Clone, Copy)]
+#[derive(Clone, Copy, PartialEq, Eq, Debug)]
 pub struct Placed<'a> {
     pub token: Token<'a>,
     pub place: usize,
     pub end: usize,
-}
-
-// What comes next in a text: a token, its end, or a fault.
-#[derive(Clone, Copy)]
-pub enum Next<'a> {
-    Token(Placed<'a>),
-    End,
-    Fault(Fault),
 }

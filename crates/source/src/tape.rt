@@ -23,9 +23,7 @@ impl Source for Tape<'_> {
     ghost waiting = { on_tape };
 
     fn take(&mut self) -> Option<u32> {
-        let Some((first, rest)) = self.numbers.split_first() else {
-            return None;
-        };
+        let (first, rest) = self.numbers.split_first()?;
         self.numbers = rest;
         Some(*first)
     }

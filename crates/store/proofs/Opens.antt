@@ -2,7 +2,7 @@
 -- and the numbers that a field takes.
 use Rattle.std.proofs.Common.{◌≡◌, ℕ, zero, suc, ◌<◌, ◌≤◌, Bool, true, false, ◌&&◌, eqb, ltb, List, [], ◌∷◌, length, get_or, set, sym, refl, ap, ◌∙◌, subst, ⊎_elim, arith, length-set, get_or-set_same}
 use mathlib.Core.Bool.{and_assoc}
-use Rattle.std.proofs.lemmas.Bool.{and_from, and_parts, and_left, and_right, eqb-true, eq-eqb, ne_eqb, cases_Bool, both_ways}
+use Rattle.std.proofs.lemmas.Bool.{and_from, and_parts, and_left, eqb-true, eq-eqb, ne_eqb, cases_Bool, both_ways}
 use Rattle.formula.specs.declared.Comparison.{Comparison}
 use Rattle.formula.specs.Comparing.{holds}
 use Rattle.marks.specs.Sets.{kept}
@@ -25,15 +25,6 @@ each_at [] (v ∷ m) i e h = absurd (both_ways true (sym e) refl)
 each_at (r ∷ rs) [] i e h = absurd (omega arith)
 each_at (r ∷ rs) (v ∷ m) zero e h = (and_parts (has r v) (each_in rs m) e).0
 each_at (r ∷ rs) (v ∷ m) (suc i) e h = each_at rs m i (and_parts (has r v) (each_in rs m) e).1 (omega arith)
-
-pub each_from : (rs : List Row) (m : List ℕ)
-    → ((i : ℕ) → i < length m → has (get_or rs i no_row) (get_or m i 0) ≡ true)
-    → each_in rs m ≡ true
-unfolding each_in
-each_from rs [] h = refl
-each_from [] (v ∷ m) h = absurd (both_ways _ (no_row_has v) (h 0 (omega arith)))
-each_from (r ∷ rs) (v ∷ m) h =
-    and_from _ _ (h 0 (omega arith)) (each_from rs m (λ i q. h (suc i) (omega arith)))
 
 -- Keep: one row narrowed
 
@@ -178,19 +169,6 @@ marks_values n rs f l e = values_by n (marks_in n rs) f (has (get_or rs f no_row
 
 -- Membership of one mark
 
-pub in_marks : (n : ℕ) (rs : List Row) (m : List ℕ) → length m ≡ n
-    → ((i : ℕ) → i < length m → has (get_or rs i no_row) (get_or m i 0) ≡ true)
-    → marks_in n rs m ≡ true
-unfolding marks_in
-in_marks n rs m e h = and_from _ _ (eq-eqb _ _ e) (each_from rs m h)
-
 pub long_not_in : (n : ℕ) (rs : List Row) (m : List ℕ) → (length m ≡ n → ⊥) → marks_in n rs m ≡ false
 unfolding marks_in
 long_not_in n rs m h = and_left _ _ (ne_eqb _ _ h)
-
-pub number_not_in : (n : ℕ) (rs : List Row) (m : List ℕ) (i : ℕ) → i < length m
-    → has (get_or rs i no_row) (get_or m i 0) ≡ false → marks_in n rs m ≡ false
-unfolding marks_in
-number_not_in n rs m i l e =
-    and_right _ _ (⊎_elim (λ t. absurd (both_ways _ e (each_at rs m i t l))) (λ z. z)
-    (cases_Bool (each_in rs m)))

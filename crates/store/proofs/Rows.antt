@@ -1,7 +1,7 @@
 -- A row with a number more or less, and a loop that narrows a row.
-use Rattle.std.proofs.Common.{◌≡◌, ℕ, ◌+◌, ◌<◌, ◌≤◌, Bool, true, false, ◌&&◌, ◌||◌, eqb, ltb, ◌≢◌, [], length, get_or, set, sym, refl, ap, ◌∙◌, subst, ⊎_elim, arith, length-set, below_more}
+use Rattle.std.proofs.Common.{◌≡◌, ℕ, ◌+◌, ◌<◌, ◌≤◌, Bool, true, false, ◌&&◌, ◌||◌, eqb, ltb, ◌≢◌, List, [], length, get_or, set, sym, refl, ap, ◌∙◌, subst, ⊎_elim, arith, length-set, below_more}
 use mathlib.Core.Bool.{and-true, and-false, or-false}
-use Rattle.std.proofs.lemmas.List.{get_or-set_same, get_or-set_other}
+use Rattle.std.proofs.lemmas.List.{get_or-set_same, get_or-set_other, set-get_or}
 use Rattle.std.proofs.lemmas.Bool.{and_from, and_left, and_right, or_right, lt-ltb, le-ltb, eq-eqb, ne_eqb, cases_eq}
 use Rattle.store.specs.declared.row.Row.{Row}
 use Rattle.store.specs.Rows.{has}
@@ -13,6 +13,10 @@ no_row = record { present = [] }
 pub no_row_has : (v : ℕ) → has no_row v ≡ false
 unfolding has
 no_row_has v = and_right (ltb v 1024) false refl
+
+pub row_at : (r : Row) (v : ℕ) → v < 1024 → has r v ≡ get_or r.present v false
+unfolding has
+row_at r v h = ap (λ b. b && get_or r.present v false) (lt-ltb v 1024 h)
 
 pub row_yes : (r : Row) (v : ℕ) → v < 1024 → get_or r.present v false ≡ true → has r v ≡ true
 unfolding has
@@ -50,6 +54,13 @@ narrow_keep p r₀ r v i e = (
   below_more _ _ i.1 (i.2 v (omega arith) ∙ sym (ap (λ b. has r₀ v && b) e ∙ and-true (has r₀ v))),
   (λ k h. i.2 k (omega arith)),
 )
+
+-- the same where the item is lent and left as it was
+pub narrow_left : (p : ℕ → Bool) (r₀ r : Row) (v : ℕ) → Narrowing p r₀ r v → p v ≡ true
+    → Narrowing p r₀ (record { present = set r.present v (get_or r.present v false) }) (v + 1)
+narrow_left p r₀ r v i e =
+    let P : List Bool → Type 0 = λ xs. Narrowing p r₀ (record { present = xs }) (v + 1) in
+    subst P (sym (set-get_or r.present v false)) (narrow_keep p r₀ r v i e)
 
 pub narrow_drop : (p : ℕ → Bool) (r₀ r : Row) (v : ℕ) → v < 1024 → Narrowing p r₀ r v → p v ≡ false
     → Narrowing p r₀ (without r v) (v + 1)

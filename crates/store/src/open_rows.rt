@@ -1,5 +1,5 @@
 // The open store is a store: keep narrows the row of its field.
-ghost use Rattle.std.specs.Prelude.{◌≡◌, ◌≤◌};
+ghost use Rattle.std.specs.Prelude.{◌≡◌, ◌≤◌, take};
 ghost use Rattle.store.specs.Rules.{TellsEmpty};
 ghost use Rattle.store.specs.Opens.{HasEvery, open_start, open_left};
 ghost use Rattle.store.specs.TakenRows.{LendsTaken};
@@ -39,37 +39,35 @@ impl OpenStore {
     pub fn contains(&self, mark: &[u16]) -> bool
         ensures { result ≡ open_left self.now mark.now }
     {
-        if mark.len() != self.width {
-            return false;
-        }
-        for i in 0..mark.len() {
-            if !self.rows[i].holds(mark[i]) {
-                return false;
-            }
-        }
-        true
+        mark.len() == self.width
+            && mark
+                .iter()
+                .zip(self.in_use())
+                .all(|(number, row)| row.holds(*number))
+    }
+
+    // The rows of the fields.
+    fn in_use(&self) -> &[Row]
+        ensures { result.now ≡ take self.now.width self.now.rows }
+    {
+        &self.rows[..self.width]
     }
 
     // Whether no mark is left: a row that is in use has no number.
     fn has_empty_row(&self) -> bool
         ensures { TellsEmpty self.now.width (open_left self.now) result }
     {
-        for i in 0..self.width {
-            if !self.rows[i].any() {
-                return true;
-            }
-        }
-        false
+        self.in_use().iter().any(Row::is_empty)
     }
 
     // The row of the numbers that a field takes in the current set, if it takes any.
     fn taken(&self, field: usize) -> Option<&Row>
         ensures { LendsTaken self.now.width (open_left self.now) field result }
     {
-        if field >= self.width || self.has_empty_row() {
+        if self.has_empty_row() {
             return None;
         }
-        Some(&self.rows[field])
+        self.in_use().get(field)
     }
 }
 
@@ -94,8 +92,7 @@ impl Store for OpenStore {
         if field >= self.width || number > GREATEST {
             return Err(Refusal::Outside);
         }
-        let row = self.row(field);
-        row.narrow(sign, number);
+        self.row(field).narrow(sign, number);
         Ok(())
     }
 
@@ -104,16 +101,10 @@ impl Store for OpenStore {
     }
 
     fn count(&self, field: usize) -> usize {
-        match self.taken(field) {
-            Some(row) => row.count(),
-            None => 0,
-        }
+        self.taken(field).map_or(0, Row::count)
     }
 
     fn value(&self, field: usize, k: usize) -> Option<u16> {
-        match self.taken(field) {
-            Some(row) => row.value(k),
-            None => None,
-        }
+        self.taken(field)?.value(k)
     }
 }

@@ -1,5 +1,5 @@
 // The numbers that one field may take.
-ghost use Rattle.std.specs.Prelude.{◌≡◌, ℕ, false, ◌&&◌, ◌||◌, length, ◌==◌, nat_lt};
+ghost use Rattle.std.specs.Prelude.{◌≡◌, ℕ, false, not, ◌&&◌, ◌||◌, length, ◌==◌, nat_lt};
 ghost use Rattle.formula.specs.Comparing.{holds};
 ghost use Rattle.marks.specs.Counted.{any_below, below};
 ghost use Rattle.store.specs.Rules.{Picks};
@@ -8,11 +8,12 @@ ghost use Rattle.store.specs.Rows.{has};
 use formula::Comparison;
 
 // A set of numbers up to 1,023: whether each is in it.
-#[derive(Clone, Copy)]
+#[derive(Clone, Copy, PartialEq, Eq, Debug)]
 pub struct Row {
     present: [bool; 1024],
 }
 
+// `full` and `none` stay two functions: their names say more than a `filled(true)` would.
 impl Row {
     // Every number up to 1,023.
     pub(crate) fn full() -> Row
@@ -54,32 +55,28 @@ impl Row {
         ensures { (v : ℕ) → has self.new v
             ≡ (has self.old v && holds sign v number) }
     {
-        for v in 0..1024u16 {
-            if !sign.holds(v, number) {
-                self.present[v as usize] = false;
+        for (v, present) in self.present.iter_mut().enumerate() {
+            if !sign.holds(v as u16, number) {
+                *present = false;
             }
         }
     }
 
-    // Whether a number is in the row.
-    pub(crate) fn any(&self) -> bool
-        ensures { result ≡ any_below (has self.now) 1024 }
+    // Whether no number is in the row.
+    pub(crate) fn is_empty(&self) -> bool
+        ensures { result ≡ not (any_below (has self.now) 1024) }
     {
-        for v in 0..1024usize {
-            if self.present[v] {
-                return true;
-            }
-        }
-        false
+        !self.present.contains(&true)
     }
 
     // How many numbers are in the row.
     pub fn count(&self) -> usize
         ensures { result ≡ length (below (has self.now) 1024) }
     {
+        // A loop over the elements, since a filtered chain's `count` takes eight times its instructions.
         let mut found = 0;
-        for v in 0..1024usize {
-            if self.present[v] {
+        for present in &self.present {
+            if *present {
                 found += 1;
             }
         }
@@ -90,15 +87,6 @@ impl Row {
     pub fn value(&self, k: usize) -> Option<u16>
         ensures { Picks (below (has self.now) 1024) k result }
     {
-        let mut passed = 0;
-        for v in 0..1024u16 {
-            if self.present[v as usize] {
-                if passed == k {
-                    return Some(v);
-                }
-                passed += 1;
-            }
-        }
-        None
+        (0..1024u16).filter(|v| self.present[*v as usize]).nth(k)
     }
 }

@@ -1,5 +1,5 @@
 // Texts at each limit and one past it, with what proofreading prints of them.
-use signs::{Next, Sign, Token};
+use signs::{Sign, Token};
 use std::test::Fail;
 
 struct Case<'a> {
@@ -109,7 +109,7 @@ fn a_text_too_long(rt: HostRuntime) -> Result<(), Fail> {
 #[test]
 fn tokens_have_places(rt: HostRuntime) -> Result<(), Fail> {
     let text = b" box <=7";
-    let Next::Token(word) = signs::next(text, 0) else {
+    let Ok(Some(word)) = signs::next(text, 0) else {
         return Err(Fail::new("a word"));
     };
     assert!(rt; word.place == 1 && word.end == 4);
@@ -117,7 +117,7 @@ fn tokens_have_places(rt: HostRuntime) -> Result<(), Fail> {
         return Err(Fail::new("a word"));
     };
     assert!(rt; spelling == b"box".as_slice());
-    let Next::Token(sign) = signs::next(text, word.end) else {
+    let Ok(Some(sign)) = signs::next(text, word.end) else {
         return Err(Fail::new("a sign"));
     };
     assert!(rt; sign.place == 5 && sign.end == 7);
@@ -127,11 +127,11 @@ fn tokens_have_places(rt: HostRuntime) -> Result<(), Fail> {
             Token::Sign(Sign::Compare(formula::Comparison::AtMost))
         )
     );
-    let Next::Token(number) = signs::next(text, sign.end) else {
+    let Ok(Some(number)) = signs::next(text, sign.end) else {
         return Err(Fail::new("a number"));
     };
     assert!(rt; matches!(number.token, Token::Number(7)));
-    assert!(rt; matches!(signs::next(text, number.end), Next::End));
-    assert!(rt; matches!(signs::next(text, 1000), Next::End));
+    assert!(rt; matches!(signs::next(text, number.end), Ok(None)));
+    assert!(rt; matches!(signs::next(text, 1000), Ok(None)));
     Ok(())
 }

@@ -17,11 +17,7 @@ impl Walk {
             begun: false,
             finished: false,
             len: 0,
-            tallies: Tallies {
-                issued: 0,
-                dead: 0,
-                spent: 0,
-            },
+            tallies: Tallies::default(),
         }
     }
 }

@@ -1,26 +1,14 @@
 -- A set of marks without those that hold some pairs: one pair more is one keep more.
-use Rattle.std.proofs.Common.{◌≡◌, ℕ, ◌<◌, Bool, true, false, not, ◌&&◌, ◌||◌, eqb, ltb, List, [], ◌∷◌, ◌++◌, length, get_or, Ok, Err, MatchBool, Result, sym, refl, ap, ◌∙◌, subst, ⊎_elim, arith, length-take}
+use Rattle.std.proofs.Common.{◌≡◌, ℕ, ◌<◌, Bool, true, false, not, ◌&&◌, ◌||◌, eqb, ltb, List, [], ◌∷◌, ◌++◌, length, get_or, Ok, Err, Result, sym, refl, ap, ◌∙◌, ⊎_elim, arith}
 use mathlib.Core.Bool.{and-true}
 use Rattle.std.proofs.ByRecursion.{All-get_or}
-use Rattle.std.proofs.lemmas.Bool.{and_parts, eqb-true, ltb-true, lt-ltb, eq-eqb, ne_eqb, cases_Bool, cases_eq}
+use Rattle.std.proofs.lemmas.Bool.{and_parts, eqb-true, ltb-true, lt-ltb, cases_Bool}
 use Rattle.formula.specs.declared.Comparison.TheVariants.{Differ}
 use Rattle.refusal.specs.declared.Refusal.{Refusal}
 use Rattle.marks.specs.Sets.{Marks, Shaped, MarksOf, kept}
 use Rattle.store.specs.Rules.{Inside, Keeps}
 use Rattle.withheld.specs.declared.pair.Pair.{Pair}
-use Rattle.withheld.specs.declared.layer.Withheld.{Withheld}
-use Rattle.withheld.specs.Withholding.{holds_pair, holds_one, without, pairs_of}
-
--- the list of pairs is as long as the count says
-pub count_is : {X : Type 0} (w : Withheld X) → length (pairs_of w) ≡ w.count
-count_is w = let long = w.long in let few = w.few in simp length-take (omega arith)
-
-pub when_equal : {P Q : Type 0} (a b : ℕ) → (a ≡ b → P) → ((a ≡ b → ⊥) → Q) → MatchBool (eqb a b) P Q
-when_equal {P} {Q} a b p q =
-    ⊎_elim
-    (λ e. subst (λ r. MatchBool r P Q) (sym (eq-eqb a b e)) (p e))
-    (λ n. subst (λ r. MatchBool r P Q) (sym (ne_eqb a b n)) (q n))
-    (cases_eq a b)
+use Rattle.withheld.specs.Withholding.{holds_pair, holds_one, without}
 
 pub without_none : (S : Marks) → S ≡ without [] S
 unfolding without holds_one

@@ -1,6 +1,6 @@
 -- A layer over a store: up to 32 pairs of field and number, a repeat counted again.
 -- Its starting set is the lower one without the marks that hold such a pair.
-use Rattle.std.specs.Prelude.{◌≡◌, ℕ, ◌<◌, Bool, false, not, ◌&&◌, ◌||◌, ◌⊎◌, List, [], ◌∷◌, ◌++◌, length, take, Ok, Err, Result, ◌==◌, nat_lt, slice_index}
+use Rattle.std.specs.Prelude.{◌≡◌, ℕ, ◌<◌, Bool, false, not, ◌&&◌, ◌||◌, ◌⊎◌, List, [], ◌∷◌, ◌++◌, length, Ok, Err, Result, ◌==◌, nat_lt, slice_index}
 use Rattle.refusal.specs.declared.Refusal.{Refusal}
 use Rattle.refusal.specs.Table.{number}
 use Rattle.marks.specs.Sets.{Marks}
@@ -23,7 +23,7 @@ without ps S m = S m && not (holds_one ps m)
 
 -- the pairs of a layer, first to last
 abbrev pub pairs_of : {X : Type 0} → Withheld X → List Pair
-pairs_of w = take w.count w.pairs
+pairs_of w = w.pairs.items
 
 -- 20 when the field is not one of the n or the number above 1,023, else 21 when there are 32 pairs
 abbrev pub RefusedWith : (n pairs f k : ℕ) → ℕ → Type 0

@@ -1,13 +1,9 @@
 // A layer over a store: up to 32 pairs, and the store below.
-ghost use Rattle.std.specs.Prelude.{◌≡◌, ◌≤◌, length};
-
 use crate::pair::Pair;
+use arrayvec::ArrayVec;
 
-#[derive(Drop)]
+#[derive(PartialEq, Eq, Debug, Drop)]
 pub struct Withheld<S> {
-    pub(crate) pairs: [Pair; 32],
-    pub(crate) count: usize,
+    pub(crate) pairs: ArrayVec<Pair, 32>,
     pub(crate) lower: S,
-    ghost long: { length pairs ≡ 32 },
-    ghost few: { count ≤ 32 },
 }

@@ -1,10 +1,11 @@
 // Setting pairs: a layer begins with none, and each that is set restarts it.
-ghost use Rattle.std.specs.Prelude.{◌≡◌, ◌<◌, [], ◌∷◌, ◌++◌, length, MatchBool};
+ghost use Rattle.std.specs.Prelude.{◌≡◌, []};
 ghost use Rattle.withheld.specs.Withholding.{pairs_of, without, Withholds};
 ghost use Rattle.withheld.specs.Restarting.{Restarts};
 
 use crate::layer::Withheld;
 use crate::pair::Pair;
+use arrayvec::ArrayVec;
 use formula::Comparison;
 use refusal::Refusal;
 use store::{GREATEST, Store};
@@ -17,11 +18,7 @@ impl<S: Store> Withheld<S> {
         ensures starts { without (pairs_of result) (S.Store.starting result.lower) ≡ S.Store.starting lower }
     {
         Withheld {
-            pairs: [Pair {
-                field: 0,
-                number: 0,
-            }; 32],
-            count: 0,
+            pairs: ArrayVec::new(),
             lower,
         }
     }
@@ -34,31 +31,11 @@ impl<S: Store> Withheld<S> {
         if field >= self.lower.fields() || number > GREATEST {
             return Err(Refusal::Outside);
         }
-        if self.is_full() {
-            return Err(Refusal::PairsFull);
-        }
-        self.push(Pair { field, number });
+        self.pairs
+            .try_push(Pair { field, number })
+            .map_err(|_| Refusal::PairsFull)?;
         self.refresh();
         Ok(())
-    }
-
-    // Whether there is no room for a pair more.
-    fn is_full(&self) -> bool
-        ensures { MatchBool result (length (pairs_of self.now) ≡ 32)
-            (length (pairs_of self.now) < 32) }
-    {
-        self.count == 32
-    }
-
-    // Takes one pair more into the list.
-    fn push(&mut self, pair: Pair)
-        requires { length (pairs_of self.old) < 32 }
-        ensures pairs { pairs_of self.new ≡ pairs_of self.old ++ pair ∷ [] }
-        ensures lower { self.new.lower ≡ self.old.lower }
-    {
-        let count = self.count;
-        self.pairs[count] = pair;
-        self.count = count + 1;
     }
 
     // Begins anew: the lower store's start without the pairs.
@@ -66,10 +43,11 @@ impl<S: Store> Withheld<S> {
         ensures { Restarts S.Store.width S.Store.starting S.Store.current
             self.old self.new }
     {
-        self.lower.restart();
-        for i in 0..self.count {
-            let pair = self.pairs[i];
-            let _ = self.lower.keep(pair.field, Comparison::Differ, pair.number);
+        let Withheld { pairs, lower } = self;
+        lower.restart();
+        for pair in pairs.iter() {
+            // A pair outside the lower store is refused there, and no mark holds it.
+            let _ = lower.keep(pair.field, Comparison::Differ, pair.number);
         }
     }
 }

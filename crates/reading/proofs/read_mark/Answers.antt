@@ -22,4 +22,4 @@ pub returns : goal.returns
 returns c =
     checks_in c.args.sheet.now c.args.mark.now c.args.fuel c.if-not-in_ranges.ensures
     c.read-result.result c.read-result.new.fuel c.read-result.ensures.read
-    _ (c.verdict_on.ensures c.read-result.new.fuel)
+    _ (c.from.ensures c.read-result.new.fuel)

@@ -3,25 +3,35 @@ use Rattle.std.proofs.lemmas.List.{take_all}
 use Rattle.sheet.specs.Sheets.{tree_of}
 use Rattle.sheet.proofs.Keeps.{every_sheet_keeps_lem}
 use Rattle.client.proofs.Taking.{takes_none, takes_on}
+use Rattle.client.proofs.Lending.{same_none, same_on}
 use Rattle.client.proofs.Conducting.{conducted_all, conducted_closed}
 use Rattle.client.proofs.conduct.conduct.Goals as goal
 
 pub loop-call-init : goal.loop-call-init
-loop-call-init g c = (omega arith, refl, refl, takes_none _ _ _ _ _)
+loop-call-init g c = record {
+  room = omega arith;
+  wide = refl;
+  starting = refl;
+  own = same_none;
+  takes = takes_none _ _ _ _ _;
+}
 
 pub loop-call-preserved : goal.loop-call-preserved
 loop-call-preserved g c =
     let inv = c.loop-call.invariant in
-    let on = c.in-On.ensures in (
-      on.room,
-      on.same.0 ∙ inv.1,
-      on.same.1 ∙ inv.2,
-      takes_on _ c.args.calls.now c.loop-call.call-index _ inv.1 c.loop-call-test.true refl
-          (omega arith) inv.3 on.takes,
-    )
+    let on = c.in-Continue.ensures in
+    record {
+      room = on.room;
+      wide = on.same.0 ∙ inv.wide;
+      starting = on.same.1 ∙ inv.starting;
+      own = same_on inv.own on.own;
+      takes =
+          takes_on _ c.args.calls.now c.loop-call.call-index _ inv.wide c.loop-call-test.true refl
+          (omega arith) inv.takes on.takes;
+    }
 
-pub returns-in-Closed : goal.returns-in-Closed
-returns-in-Closed g c =
+pub returns-in-Break-clause-conducted : goal.returns-in-Break-clause-conducted
+returns-in-Break-clause-conducted g c =
     let st = g.S.Store in
     let s = c.args.store.now in
     let sh = c.args.sheet.now in
@@ -31,15 +41,15 @@ returns-in-Closed g c =
     let start = c.start-walk.ensures in
     let law =
     start.law (tree_of sh) (every_sheet_keeps_lem sh) (st.width s) (st.starting s) (st.sound.started s)
-    c.args.picks.now c.args.widths.now in
-    let fresh = start.fresh (st.starting s) c.args.picks.now c.args.widths.now in
+    c.args.lists.now.picks.now c.args.lists.now.widths.now in
+    let fresh = start.fresh (st.starting s) c.args.lists.now.picks.now c.args.lists.now.widths.now in
     conducted_closed (tree_of sh) (st.width s) c.args.fuel (st.starting s) _ (take (i + 1) calls)
-    (drop (i + 1) calls) calls _ _ c.args.marks.now _ law fresh start.fuel refl
-    (takes_on _ calls i _ inv.1 c.loop-call-test.true refl (omega arith) inv.3
-    c.in-Closed.ensures.takes) (sym (take-append-drop (i + 1) calls))
+    (drop (i + 1) calls) calls _ _ c.args.lists.now.mark.now _ law fresh start.fuel refl
+    (takes_on _ calls i _ inv.wide c.loop-call-test.true refl (omega arith) inv.takes
+    c.in-Break.ensures.takes) (sym (take-append-drop (i + 1) calls))
 
-pub returns : goal.returns
-returns g c =
+pub returns-clause-conducted : goal.returns-clause-conducted
+returns-clause-conducted g c =
     let st = g.S.Store in
     let s = c.args.store.now in
     let sh = c.args.sheet.now in
@@ -48,7 +58,7 @@ returns g c =
     let start = c.start-walk.ensures in
     let law =
     start.law (tree_of sh) (every_sheet_keeps_lem sh) (st.width s) (st.starting s) (st.sound.started s)
-    c.args.picks.now c.args.widths.now in
-    let fresh = start.fresh (st.starting s) c.args.picks.now c.args.widths.now in
-    conducted_all (tree_of sh) (st.width s) c.args.fuel (st.starting s) _ _ _ calls _ c.args.marks.now _ law
-    fresh start.fuel refl (take_all c.loop-call.call-index calls c.loop-call-test.false) inv.3
+    c.args.lists.now.picks.now c.args.lists.now.widths.now in
+    let fresh = start.fresh (st.starting s) c.args.lists.now.picks.now c.args.lists.now.widths.now in
+    conducted_all (tree_of sh) (st.width s) c.args.fuel (st.starting s) _ _ _ calls _ c.args.lists.now.mark.now _ law
+    fresh start.fuel refl (take_all c.loop-call.call-index calls c.loop-call-test.false) inv.takes

@@ -1,4 +1,3 @@
-use Rattle.std.proofs.Common.{arith}
 use Rattle.std.proofs.lemmas.Result.{err_from_is_err_and}
 use Rattle.grammar.proofs.Lines.{body_stops, rule_read}
 use Rattle.grammar.proofs.line.read_rule.Goals as goal
@@ -6,25 +5,21 @@ use Rattle.grammar.proofs.line.read_rule.Goals as goal
 pub returns-in_err-head : goal.returns-in_err-head
 returns-in_err-head c =
     let q = err_from_is_err_and c.from_residual.result c.from_residual.ensures.1 in
-    rw (q.1, q.2) (record { room = c.requires; value = c.in_err-head.ensures })
+    rw (q.1, q.2) (λ text e. c.in_err-head.ensures text e)
 
 pub returns-in_err-body : goal.returns-in_err-body
 returns-in_err-body c =
-    let q = err_from_is_err_and c.from_residual-in_err-body.result
-    c.from_residual-in_err-body.ensures.1 in
-    rw (q.1, q.2) (record {
-      room = c.read_body.ensures.grown.room c.requires;
-      value = body_stops c.args.text.now _ c.args.first c.args.table.now
-          c.in_ok-head.head c.in_ok-head.ensures c.args.table.now _
-          c.in_err-body.ensures.value;
-    })
+    let q = err_from_is_err_and c.from_residual-in_err-body.result c.from_residual-in_err-body.ensures.1 in
+    rw (q.1, q.2) (λ text e.
+    let h = c.in_ok-head.ensures text e in
+    let b = c.in_err-body.ensures.value text h.0 in
+    (b.0, body_stops text _ c.args.first c.args.table.now _ h.1 c.args.table.now _ b.1))
 
 pub returns : goal.returns
-returns c =
-    let g = c.read_body.ensures.grown in
-    record {
-      room = omega (arith, g.room c.requires, c.keep_rule.ensures.entries);
-      value = rule_read c.args.text.now _ _ c.args.table.now c.in_ok-head.head
-          c.in_ok-head.ensures
-          c.in_ok-body.body g c.in_ok-body.ensures.value c.keep_rule.ensures.lines;
-    }
+returns c = λ text e.
+    let h = c.in_ok-head.ensures text e in
+    let b = c.in_ok-body.ensures.value text h.0 in (
+      b.0,
+      rule_read text _ _ c.args.table.now _ h.1 (record { value = c.in_ok-body.body; end = c.read_body.new.cursor.at })
+          c.read_body.ensures.grown b.1 c.keep_rule.ensures.lines,
+    )

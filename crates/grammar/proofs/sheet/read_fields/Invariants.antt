@@ -1,11 +1,11 @@
 use Rattle.std.proofs.Common.{◌≡◌, ◌-◌, length}
-use Rattle.grammar.specs.Parsing.{FieldsSoFar}
+use Rattle.grammar.specs.Parsing.{Along, FieldsSoFar}
 use Rattle.grammar.proofs.sheet.read_fields.Given as goal
 
-abbrev pub invariant-loop-table : goal.invariant-loop-table
-invariant-loop-table l =
-    (l.table.node_count ≡ l.initial.table.node_count) × FieldsSoFar l.text l.at l.initial.table
-    l.table l.from
+abbrev pub invariant-loop-cursor : goal.invariant-loop-cursor
+invariant-loop-cursor l =
+    (l.table.nodes ≡ l.initial.table.nodes) × Along l.initial.cursor l.cursor (λ text.
+    FieldsSoFar text l.initial.cursor.at l.initial.table l.table l.cursor.at)
 
-abbrev pub decreases-loop-table : goal.decreases-loop-table
-decreases-loop-table l = length l.text - l.from
+abbrev pub decreases-loop-cursor : goal.decreases-loop-cursor
+decreases-loop-cursor l = length l.initial.cursor.text.now - l.cursor.at

@@ -1,4 +1,4 @@
-use Rattle.std.proofs.Common.{◌≡◌, ℕ, ◌-◌, ◌<◌, ◌≤◌, length}
+use Rattle.std.proofs.Common.{◌≡◌, ℕ, ◌<◌, length}
 use Rattle.sheet.specs.Table.{line_at}
 use Rattle.names.specs.Looking.{rule_at}
 use Rattle.names.proofs.layout.lines_of.Given as goal
@@ -8,7 +8,4 @@ invariant-loop-l c =
     (length c.lines ≡ 17)
     × ((k : ℕ) → k < c.l
     → ((line_at c.lines k).start ≡ (rule_at c.rules k).start) × ((line_at c.lines k).body ≡ (rule_at c.rules k).body)
-    × ((rule_at c.rules k).param_count ≤ 4 → (line_at c.lines k).params ≡ (rule_at c.rules k).param_count))
-
-abbrev pub decreases-loop-l : goal.decreases-loop-l
-decreases-loop-l c = 16 - c.l
+    × ((line_at c.lines k).params ≡ length (rule_at c.rules k).params.items))

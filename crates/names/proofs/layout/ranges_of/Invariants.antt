@@ -1,4 +1,4 @@
-use Rattle.std.proofs.Common.{◌≡◌, ℕ, ◌-◌, ◌<◌, length}
+use Rattle.std.proofs.Common.{◌≡◌, ℕ, ◌<◌, length}
 use Rattle.sheet.specs.Table.{range_at}
 use Rattle.names.specs.Looking.{field_at}
 use Rattle.names.proofs.layout.ranges_of.Given as goal
@@ -8,6 +8,3 @@ invariant-loop-i l =
     (length l.ranges ≡ 8)
     × ((k : ℕ) → k < l.i
     → ((range_at l.ranges k).low ≡ (field_at l.fields k).low.value) × ((range_at l.ranges k).high ≡ (field_at l.fields k).high.value))
-
-abbrev pub decreases-loop-i : goal.decreases-loop-i
-decreases-loop-i l = 8 - l.i

@@ -1,20 +1,21 @@
-use Rattle.std.proofs.Common.{ℕ, ◌≤◌, length, ◌∙◌, ap₂, arith, rules}
+use Rattle.std.proofs.Common.{sym, ℕ, ◌≤◌, ◌≢◌, length, ◌∙◌, ap₂, subst, arith, rules}
+use Rattle.std.proofs.lemmas.List.{length-take-le}
 use Rattle.sheet.specs.Keeping.{known_terms}
 use Rattle.reading.proofs.Entries.{parts_as, terms_known, call_kept, numbers_long, numbers_count}
 use Rattle.reading.proofs.Entries.{read_compare, read_uncalled, read_called, read_not, read_not_out}
 use Rattle.reading.proofs.Entries.{read_pick}
-use Rattle.reading.proofs.Entries.{read_left_out, read_left, read_right}
+use Rattle.reading.proofs.Entries.{read_left_out, read_left, read_right, differ, agree}
 use Rattle.reading.proofs.formulas.+read.Goals as goal
 
 -- a comparison
 
-pub evaluate-left-requires : goal.evaluate-left-requires
-evaluate-left-requires t c =
+pub of_term-left-requires : goal.of_term-left-requires
+of_term-left-requires t c =
     (terms_known c.args.sheet.now c.args.line c.args.node c.requires.within
     c.requires.fields c.requires.params c.in-Compare.is).0
 
-pub evaluate-right-requires : goal.evaluate-right-requires
-evaluate-right-requires t c =
+pub of_term-right-requires : goal.of_term-right-requires
+of_term-right-requires t c =
     (terms_known c.args.sheet.now c.args.line c.args.node c.requires.within
     c.requires.fields c.requires.params c.in-Compare.is).1
 
@@ -22,21 +23,20 @@ pub returns-in-Compare : goal.returns-in-Compare
 returns-in-Compare t c =
     record {
       read = read_compare c.args.line c.requires.within c.in-Compare.is
-          c.evaluate-left.ensures c.evaluate-right.ensures c.holds.ensures;
+          c.of_term-left.ensures c.of_term-right.ensures c.holds.ensures;
       falls = omega arith;
     }
 
 -- a call
 
-pub returns-then-fuel-eq0 : goal.returns-then-fuel-eq0
-returns-then-fuel-eq0 t c =
-    record {
-      read = read_uncalled c.args.line c.requires.within c.in-Call.is c.if-fuel-eq0.true;
-      falls = omega arith;
-    }
+pub returns-in_err-fuel-in-Call-clause-read : goal.returns-in_err-fuel-in-Call-clause-read
+returns-in_err-fuel-in-Call-clause-read t c =
+    let spent = c.in_err-fuel-in-Call.ensures in
+    rw c.from_residual.ensures
+    (read_uncalled c.args.line c.requires.within c.in-Call.is (grind (arith, spent)))
 
-pub evaluate_all-numbers-requires : goal.evaluate_all-numbers-requires
-evaluate_all-numbers-requires t c =
+pub of_terms-passed-requires : goal.of_terms-passed-requires
+of_terms-passed-requires t c =
     let k = call_kept c.args.sheet.now c.args.line c.args.node c.requires.within
     c.in-Call.is in
     record {
@@ -52,30 +52,34 @@ bounds-sheet-rule t c =
     c.in-Call.is in
     omega (arith, k.below, c.args.sheet.now.few_rules)
 
-pub slice_bounds-read-end : goal.slice_bounds-read-end
-slice_bounds-read-end t c =
+pub slice_bounds-passed-end : goal.slice_bounds-passed-end
+slice_bounds-passed-end t c =
     let k = call_kept c.args.sheet.now c.args.line c.args.node c.requires.within
     c.in-Call.is in
-    let long = numbers_long k _ _ c.evaluate_all-numbers.result c.evaluate_all-numbers.ensures in
-    let h : c.in-Call.count ≤ length c.evaluate_all-numbers.result = omega (arith, long, k.few) in
+    let long = numbers_long k _ _ c.of_terms-passed.result c.of_terms-passed.ensures in
+    let h : c.in-Call.count ≤ length c.of_terms-passed.result = omega (arith, long, k.few) in
     h
+
+pub slice_bounds-args-end : goal.slice_bounds-args-end
+slice_bounds-args-end t c =
+    let k = call_kept c.args.sheet.now c.args.line c.args.node c.requires.within
+    c.in-Call.is in
+    let long = numbers_long k _ _ c.of_terms-passed.result c.of_terms-passed.ensures in
+    let h : c.in-Call.count ≤ length c.of_terms-passed.result = omega (arith, long, k.few) in
+    sym (length-take-le _ _ h)
 
 pub read-requires : goal.read-requires
 read-requires t c =
     let k = call_kept c.args.sheet.now c.args.line c.args.node c.requires.within
     c.in-Call.is in
     let line = c.args.sheet.now.lines_kept c.in-Call.rule (omega (arith, k.below)) in
-    let count = numbers_count k _ _ c.evaluate_all-numbers.result c.evaluate_all-numbers.ensures in
+    let count = numbers_count k _ _ c.of_terms-passed.result c.of_terms-passed.ensures in
     (search (rules, line), ((omega (arith, k.below), line.1, omega arith), (c.requires.fields, count)))
 
-pub returns-else-fuel-eq0 : goal.returns-else-fuel-eq0
-returns-else-fuel-eq0 t c =
-    let h = c.read.ensures in
-    record {
-      read = read_called c.args.line c.requires.within c.evaluate_all-numbers.result
-          c.in-Call.is c.if-fuel-eq0.false c.evaluate_all-numbers.ensures h.read;
-      falls = omega (arith, h.falls);
-    }
+pub returns-in_ok-fuel-in-Call-clause-read : goal.returns-in_ok-fuel-in-Call-clause-read
+returns-in_ok-fuel-in-Call-clause-read t c =
+    read_called c.args.line c.requires.within c.of_terms-passed.result c.in-Call.is
+    c.in_ok-fuel-in-Call.ensures c.of_terms-passed.ensures c.read.ensures.read
 
 -- `not`
 
@@ -89,7 +93,7 @@ returns-in_err-result-in-Not t c =
     let h = c.in_err-result-in-Not.ensures in
     record {
       read =
-          read_not_out c.args.line c.requires.within c.in-Not.is c.from_residual.ensures
+          read_not_out c.args.line c.requires.within c.in-Not.is c.from_residual-in_err-result-in-Not.ensures
           h.read;
       falls = h.falls;
     }
@@ -135,29 +139,31 @@ returns-in_err-result-in-Join t c =
       falls = h.falls;
     }
 
-pub read-requires-else-decides : goal.read-requires-else-decides
-read-requires-else-decides t c =
+pub read-requires-else-result-wants : goal.read-requires-else-result-wants
+read-requires-else-result-wants t c =
     let p = parts_as c.args.sheet.now c.args.line c.args.node c.requires.within c.in-Join.is
     in
     let h : c.read-in-Join.new.fuel ≤ c.args.fuel.now = c.in_ok-result-in-Join.ensures.falls in
     search (rules, p, h)
 
-pub returns-then-decides : goal.returns-then-decides
-returns-then-decides t c =
+pub returns-then-result-wants : goal.returns-then-result-wants
+returns-then-result-wants t c =
     let h = c.in_ok-result-in-Join.ensures in
     record {
       read =
-          read_left c.args.line c.requires.within c.in-Join.is c.if-decides.ensures h.read;
+          read_left c.args.line c.requires.within c.in-Join.is
+          (subst (λ b. c.in_ok-result-in-Join.result ≢ b) c.wants.ensures (differ _ _ c.if-result-wants.true)) h.read;
       falls = h.falls;
     }
 
-pub returns-else-decides : goal.returns-else-decides
-returns-else-decides t c =
+pub returns-else-result-wants : goal.returns-else-result-wants
+returns-else-result-wants t c =
     let h = c.in_ok-result-in-Join.ensures in
-    let g = c.read-else-decides.ensures in
+    let g = c.read-else-result-wants.ensures in
     record {
       read =
-          read_right c.args.line c.requires.within c.in-Join.is c.if-decides.ensures h.read
+          read_right c.args.line c.requires.within c.in-Join.is
+          (agree _ _ c.if-result-wants.false ∙ c.wants.ensures) h.read
           g.read;
       falls = omega (arith, h.falls, g.falls);
     }

@@ -1,17 +1,12 @@
-use Rattle.std.proofs.Common.{sym, ap, subst}
+use Rattle.std.proofs.Common.{sym, subst}
 use Rattle.store.specs.Opens.{every_mark}
 use Rattle.register.specs.Registers.{is_row, both, HasRows}
 use Rattle.register.proofs.Registers.{rows_are_marks}
 use Rattle.register.proofs.RegisterStore.new.Goals as goal
 
-pub returns : goal.returns
-returns c =
+pub returns-clause-starts : goal.returns-clause-starts
+returns-clause-starts c =
     let n = c.args.sheet.now.field_count in
     let register = c.args.register.now in
-    let made = c.new.ensures in
-    record {
-      fields = made.fields;
-      starts = subst (λ z. HasRows n register (both (is_row register z) (every_mark z))) (sym made.fields)
-          (rows_are_marks register n c.args.sheet.now.some_fields.0);
-      left = ap (both (is_row register c.new.result.width)) made.left;
-    }
+    subst (λ z. HasRows n register (both (is_row register z) (every_mark z))) (sym c.new.ensures.fields)
+    (rows_are_marks register n c.args.sheet.now.some_fields.0)

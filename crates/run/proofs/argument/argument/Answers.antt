@@ -4,8 +4,8 @@ use Rattle.run.specs.Frames.{Stands, KnownIn}
 use Rattle.run.proofs.Frames.{argument_at}
 use Rattle.run.proofs.argument.argument.Goals as goal
 
-pub bounds-frame-p : goal.bounds-frame-p
-bounds-frame-p c =
+pub bounds-frame-place : goal.bounds-frame-place
+bounds-frame-place c =
     let k = subst (KnownIn c.args.frame.count) c.in-Param.is c.requires.known in
     let four : length c.args.frame.arguments ≡ 4 = omega arith in
     omega (arith, c.requires.few, k)
@@ -13,7 +13,7 @@ bounds-frame-p c =
 pub returns-in-Param : goal.returns-in-Param
 returns-in-Param c =
     let xs = c.args.frame.arguments in
-    let p = c.in-Param.p in
+    let p = c.in-Param.place in
     let k = subst (KnownIn c.args.frame.count) c.in-Param.is c.requires.known in
     let l : p < length xs = omega (arith, c.requires.few, k) in
     subst (λ q. Stands c.args.frame q (get_or xs p (Field 0))) (sym c.in-Param.is)

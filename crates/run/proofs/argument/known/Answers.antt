@@ -11,7 +11,7 @@ returns-then-count-eq1 g c =
     let s = c.args.store.now in
     let ok = subst (Okay (st.width s)) c.in-Field.is c.requires.okay in
     subst (λ q. Knows (st.current s) (argument_of q) c.value.result) (sym c.in-Field.is)
-    (knows_one (st.width s) (st.current s) c.in-Field.f (st.sound.left s) ok c.value.result
+    (knows_one (st.width s) (st.current s) c.in-Field.field (st.sound.left s) ok c.value.result
     (sym c.count.ensures.1 ∙ c.if-count-eq1.true) c.value.ensures.1)
 
 pub returns-else-count-eq1 : goal.returns-else-count-eq1
@@ -20,5 +20,5 @@ returns-else-count-eq1 g c =
     let s = c.args.store.now in
     let ok = subst (Okay (st.width s)) c.in-Field.is c.requires.okay in
     subst (λ q. Unknown (st.current s) (argument_of q)) (sym c.in-Field.is)
-    (knows_not (st.width s) (st.current s) c.in-Field.f (st.sound.left s) ok
+    (knows_not (st.width s) (st.current s) c.in-Field.field (st.sound.left s) ok
     (omega (arith, c.count.ensures.1, c.if-count-eq1.false)))

@@ -13,9 +13,9 @@ returns-in-Some g c =
     record {
       same = c.narrow.ensures.same;
       left = subst (λ q. Kept (st.width s) (st.current s) c.args.sign (argument_of q)
-          (argument_of c.args.y) c.narrow.result (st.current t)) (sym c.in-Field.is)
+          (argument_of c.args.right) c.narrow.result (st.current t)) (sym c.in-Field.is)
           (left_kept (st.width s) (st.current s) (st.current t) c.args.sign c.narrow.result
           (λ m h. subst (λ q. Shaped q m) c.narrow.ensures.same.0 (st.sound.left t m h))
-          c.in-Field.f (argument_of c.args.y) c.in-Some.v c.in-Some.ensures.0
+          c.in-Field.field (argument_of c.args.right) c.in-Some.number c.in-Some.ensures.0
           c.narrow.ensures.left);
     }

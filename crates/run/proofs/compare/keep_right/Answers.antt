@@ -12,11 +12,11 @@ returns-in-Field g c =
     let t = c.narrow.new.store in
     record {
       same = c.narrow.ensures.same;
-      left = subst (λ q. KeptRight (st.width s) (st.current s) c.args.sign c.args.n (argument_of q)
+      left = subst (λ q. KeptRight (st.width s) (st.current s) c.args.sign c.args.left (argument_of q)
           c.narrow.result (st.current t)) (sym c.in-Field.is)
           (right_kept (st.width s) (st.current s) (st.current t) c.args.sign c.narrow.result
           (λ m h. subst (λ q. Shaped q m) c.narrow.ensures.same.0 (st.sound.left t m h))
-          c.in-Field.g c.args.n c.mirrored.result c.mirrored.ensures
+          c.in-Field.field c.args.left c.mirrored.result c.mirrored.ensures
           c.narrow.ensures.left);
     }
 
@@ -26,8 +26,8 @@ returns-in-Number g c =
     let s = c.args.store.now in
     record {
       same = (refl, refl, λ m h. h);
-      left = subst (λ q. KeptRight (st.width s) (st.current s) c.args.sign c.args.n (argument_of q)
+      left = subst (λ q. KeptRight (st.width s) (st.current s) c.args.sign c.args.left (argument_of q)
           c.holds.result (st.current s)) (sym c.in-Number.is)
-          (test_kept (st.width s) (st.current s) c.args.sign c.args.n c.in-Number.m
+          (test_kept (st.width s) (st.current s) c.args.sign c.args.left c.in-Number.number
           c.holds.result c.requires.some c.holds.ensures);
     }

@@ -1,83 +1,60 @@
-use Rattle.std.proofs.Common.{refl}
-use Rattle.run.specs.Ways.{way}
+use Rattle.std.proofs.Common.{sym, subst}
+use Rattle.run.specs.Ways.{way_of}
 use Rattle.run.specs.Frames.{argument_of}
-use Rattle.run.proofs.Leaving.{leave_left, leave_right, leave_first, leave_halt, leave_fits}
+use Rattle.run.specs.Comparing.{LeftOne}
+use Rattle.run.proofs.Leaving.{known_if, unknown_if, leave_left, leave_right, leave_first, leave_halt, leave_fits}
 use Rattle.run.proofs.compare.leave_one.Goals as goal
 
-pub settle-requires : goal.settle-requires
-settle-requires g c =
+pub returns-then-is_some-clause-left : goal.returns-then-is_some-clause-left
+returns-then-is_some-clause-left g c =
     let st = g.S.Store in
-    let waits = g.R.Source.waiting in
-    let guide = c.args.guide in
     let s = c.args.store.now in
-    let z = way guide c.args.picks.now c.args.widths.now c.args.at.now
-    (waits c.args.source.now) in
-    record {
-      okay = c.requires.left;
-      some = c.requires.some;
-      room = leave_fits (st.width s) (st.current s) z c.requires.some c.args.x (argument_of c.args.y)
-          c.in-None.ensures c.in-None-known.ensures c.requires.room;
-    }
+    let a = argument_of c.args.left in
+    let k = known_if (st.current s) a c.known.result c.if-is_some.ensures c.known.ensures in
+    leave_left (st.width s) (st.current s) (way_of g.G.Guide.ahead c.args.trail.now) c.requires.some a
+    (argument_of c.args.right) k.0 k.1
 
-pub returns-in-Some : goal.returns-in-Some
-returns-in-Some g c =
+pub returns-then-is_some-2-clause-left : goal.returns-then-is_some-2-clause-left
+returns-then-is_some-2-clause-left g c =
     let st = g.S.Store in
-    let waits = g.R.Source.waiting in
-    let guide = c.args.guide in
     let s = c.args.store.now in
-    let z = way guide c.args.picks.now c.args.widths.now c.args.at.now
-    (waits c.args.source.now) in
-    record {
-      same = (refl, refl, λ m h. h);
-      left = leave_left (st.width s) (st.current s) z c.requires.some
-          (argument_of c.args.x) (argument_of c.args.y) _ c.in-Some.ensures;
-    }
+    let b = argument_of c.args.right in
+    let k = known_if (st.current s) b c.known-2.result c.if-is_some-2.ensures c.known-2.ensures in
+    leave_right (st.width s) (st.current s) (way_of g.G.Guide.ahead c.args.trail.now) c.requires.some
+    (argument_of c.args.left) b k.0 k.1
 
-pub returns-in-Some-known : goal.returns-in-Some-known
-returns-in-Some-known g c =
+pub settle-requires-clause-room : goal.settle-requires-clause-room
+settle-requires-clause-room g c =
     let st = g.S.Store in
-    let waits = g.R.Source.waiting in
-    let guide = c.args.guide in
     let s = c.args.store.now in
-    let z = way guide c.args.picks.now c.args.widths.now c.args.at.now
-    (waits c.args.source.now) in
-    record {
-      same = (refl, refl, λ m h. h);
-      left = leave_right (st.width s) (st.current s) z c.requires.some
-          (argument_of c.args.x) (argument_of c.args.y) _ c.in-Some-known.ensures;
-    }
+    let S = st.current s in
+    let b = argument_of c.args.right in
+    let p = unknown_if S (argument_of c.args.left) c.known.result c.if-is_some.ensures c.known.ensures in
+    let q = unknown_if S b c.known-2.result c.if-is_some-2.ensures c.known-2.ensures in
+    leave_fits (st.width s) S (way_of g.G.Guide.ahead c.args.trail.now) c.requires.some c.args.left b p q
+    c.requires.room
 
-pub returns-in-Some-settle : goal.returns-in-Some-settle
-returns-in-Some-settle g c =
+pub returns-clause-left : goal.returns-clause-left
+returns-clause-left g c =
     let st = g.S.Store in
-    let waits = g.R.Source.waiting in
-    let guide = c.args.guide in
     let s = c.args.store.now in
-    let z = way guide c.args.picks.now c.args.widths.now c.args.at.now
-    (waits c.args.source.now) in
-    let y = way guide c.settle.new.picks c.settle.new.widths c.settle.new.at
-    (waits c.settle.new.source) in
-    record {
-      same = c.settle.ensures.same;
-      left = leave_first (st.width s) (st.current s) z
-          c.requires.some c.args.x (argument_of c.args.y) c.in-None.ensures
-          c.in-None-known.ensures _ (st.current c.settle.new.store) y
-          c.in-Some-settle.ensures.left;
-    }
+    let S = st.current s in
+    let b = argument_of c.args.right in
+    let p = unknown_if S (argument_of c.args.left) c.known.result c.if-is_some.ensures c.known.ensures in
+    let q = unknown_if S b c.known-2.result c.if-is_some-2.ensures c.known-2.ensures in
+    leave_first (st.width s) S (way_of g.G.Guide.ahead c.args.trail.now) c.requires.some c.args.left b p q _
+    (st.current c.settle.new.store) (way_of g.G.Guide.ahead c.settle.new.trail) c.in_ok-settle.ensures.left
 
-pub returns-in-None-settle : goal.returns-in-None-settle
-returns-in-None-settle g c =
+pub returns-in_err-settle-clause-left : goal.returns-in_err-settle-clause-left
+returns-in_err-settle-clause-left g c =
     let st = g.S.Store in
-    let waits = g.R.Source.waiting in
-    let guide = c.args.guide in
     let s = c.args.store.now in
-    let z = way guide c.args.picks.now c.args.widths.now c.args.at.now
-    (waits c.args.source.now) in
-    let y = way guide c.settle.new.picks c.settle.new.widths c.settle.new.at
-    (waits c.settle.new.source) in
-    record {
-      same = c.settle.ensures.same;
-      left = leave_halt (st.width s) (st.current s) z c.requires.some
-          c.args.x (argument_of c.args.y) c.in-None.ensures c.in-None-known.ensures
-          (st.current c.settle.new.store) y c.in-None-settle.ensures.left;
-    }
+    let S = st.current s in
+    let b = argument_of c.args.right in
+    let z = way_of g.G.Guide.ahead c.args.trail.now in
+    let y = way_of g.G.Guide.ahead c.settle.new.trail in
+    let P = st.current c.settle.new.store in
+    let p = unknown_if S (argument_of c.args.left) c.known.result c.if-is_some.ensures c.known.ensures in
+    let q = unknown_if S b c.known-2.result c.if-is_some-2.ensures c.known-2.ensures in
+    subst (λ r. LeftOne (st.width s) S (argument_of c.args.left) b z r P y) (sym c.from_residual.ensures)
+    (leave_halt (st.width s) S z c.requires.some c.args.left b p q P y c.in_err-settle.ensures.left)

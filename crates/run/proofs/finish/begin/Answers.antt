@@ -1,4 +1,5 @@
 use Rattle.std.proofs.Common.{◌≡◌, ◌<◌, not, map, take, sym, refl, ap, ◌∙◌, add-one, arith}
+use Rattle.std.proofs.lemmas.List.{get_or-take}
 use mathlib.Core.Bool.{not-not}
 use Rattle.formula.specs.declared.Comparison.TheVariants.{AtLeast, AtMost}
 use Rattle.marks.specs.Sets.{kept}
@@ -10,35 +11,37 @@ use Rattle.run.proofs.Tables.{ranges_are}
 use Rattle.run.proofs.Ended.{begin_more, begin_none}
 use Rattle.run.proofs.finish.begin.Goals as goal
 
-pub loop-i-init : goal.loop-i-init
-loop-i-init g c =
+pub loop-field-init : goal.loop-field-init
+loop-field-init g c =
     let st = g.S.Store in
     let t = c.restart.new.self in
     let e = c.restart.ensures in
     (refl, refl, e.left ∙ sym e.same.1 ∙ begin_none (st.starting t) c.args.sheet.now.ranges)
 
-pub loop-i-preserved : goal.loop-i-preserved
-loop-i-preserved g c =
+pub loop-field-preserved : goal.loop-field-preserved
+loop-field-preserved g c =
     let st = g.S.Store in
     let sh = c.args.sheet.now in
-    let inv = c.loop-i.invariant in
-    let i = c.loop-i.i in
+    let inv = c.loop-field.invariant in
+    let i = c.loop-field.field in
     let t = c.restart.new.self in
     let a = c.keep.ensures in
-    let b = c.keep-in-loop-i.ensures in
-    let S = st.current c.loop-i.store in
+    let b = c.keep-in-loop-field.ensures in
+    let S = st.current c.loop-field.store in
     let Q = st.current c.keep.new.self in
-    let P = st.current c.keep-in-loop-i.new.self in
+    let P = st.current c.keep-in-loop-field.new.self in
     let r = range_at sh.ranges i in
-    let less : i < sh.field_count = omega (arith, c.loop-i-test.true) in
+    let less : i < sh.field_count = omega (arith, c.loop-field-test.true) in
     let ok = sh.ranges_kept i less in
-    let here : i < st.width c.loop-i.store = omega
+    let here : i < st.width c.loop-field.store = omega
     (arith, inv.0, c.restart.ensures.same.0, c.requires.fields, less) in
     let next : i < st.width c.keep.new.self = omega (arith, here, a.same.0) in
-    let low = keeps_kept (st.width c.loop-i.store) S Q i AtLeast r.low c.keep.result a.left
-    here (omega (arith, ok)) in
-    let high = keeps_kept (st.width c.keep.new.self) Q P i AtMost r.high c.keep-in-loop-i.result
-    b.left next (omega (arith, ok)) in (
+    let rs = take sh.field_count sh.ranges in
+    let item : range_at rs i ≡ r = get_or-take sh.field_count sh.ranges i _ less in
+    let low = keeps_kept (st.width c.loop-field.store) S Q i AtLeast (range_at rs i).low c.keep.result a.left
+    here (omega (arith, ok, ap (λ q. q.low) item)) ∙ ap (λ q. kept S i AtLeast q.low) item in
+    let high = keeps_kept (st.width c.keep.new.self) Q P i AtMost (range_at rs i).high c.keep-in-loop-field.result
+    b.left next (omega (arith, ok, ap (λ q. q.high) item)) ∙ ap (λ q. kept Q i AtMost q.high) item in (
       b.same.0 ∙ a.same.0 ∙ inv.0,
       b.same.1 ∙ a.same.1 ∙ inv.1,
       high ∙ ap (λ X. kept X i AtMost r.high) low
@@ -51,10 +54,10 @@ pub returns : goal.returns
 returns g c =
     let st = g.S.Store in
     let sh = c.args.sheet.now in
-    let inv = c.loop-i.invariant in
+    let inv = c.loop-field.invariant in
     let e = c.restart.ensures.same in
-    let i = c.loop-i.i in
-    let all : i ≡ sh.field_count = omega (arith, c.loop-i-test.false, c.loop-i.auto.i-end) in
+    let i = c.loop-field.field in
+    let all : i ≡ sh.field_count = omega (arith, c.loop-field-test.false, c.loop-field.auto.field-end) in
     record {
       same = (inv.0 ∙ e.0, inv.1 ∙ e.1);
       left =

@@ -1,32 +1,29 @@
 use Rattle.std.proofs.Common.{◌≡◌, true, sym, refl, ap, ◌∙◌, subst, arith}
 use Rattle.marks.specs.Counted.{some}
-use Rattle.meaning.specs.Matching.{dead, spent}
-use Rattle.run.specs.Ways.{way}
 use Rattle.meaning.specs.Terms.{rules_of, mark_line}
 use Rattle.sheet.specs.Sheets.{tree_of}
-use Rattle.run.specs.Goals.{spot, stack, pending}
-use Rattle.run.proofs.Works.{first_fit, first_stack, begun, work_fits, work_halt, work_more, work_ends, work_done}
+use Rattle.run.specs.Ways.{way_of}
+use Rattle.run.specs.Goals.{spot_of, pending, stack}
+use Rattle.run.proofs.Ways.{trails_join}
+use Rattle.run.proofs.Settling.{narrows_join}
+use Rattle.run.proofs.Works.{first_stack, first_fit, begun, work_fits, work_stop, work_more, work_done}
 use Rattle.run.proofs.work.work.Goals as goal
 
 pub run-init : goal.run-init
 run-init g c =
     let st = g.S.Store in
-    let waits = g.R.Source.waiting in
-    let guide = c.args.guide in
     let s₀ = c.args.store.now in
-    let w = st.width s₀ in
     let S = st.current s₀ in
-    let z = way guide c.args.picks.now c.args.widths.now c.args.at.now
-    (waits c.args.source.now) in
+    let z = way_of g.G.Guide.ahead c.args.trail.now in
     let sh = c.args.sheet.now in
     let rules = rules_of (tree_of sh) in
     let F = mark_line (tree_of sh) in
     let n = c.args.fuel in
     let gs = c.args.goals.now in
     let fs = c.args.frames.now in (
-      refl,
-      refl,
-      (λ m h. h),
+      (refl, refl, λ m h. h),
+      (refl, refl, refl, refl, refl),
+      (refl, refl),
       c.requires.some,
       first_fit sh gs fs n c.requires.goals c.requires.frames (omega arith),
       begun rules F n S z _ (first_stack sh gs fs n c.requires.goals c.requires.frames (omega arith)),
@@ -35,13 +32,9 @@ run-init g c =
 pub step-requires : goal.step-requires
 step-requires g c =
     let st = g.S.Store in
-    let waits = g.R.Source.waiting in
-    let guide = c.args.guide in
     let s₀ = c.args.store.now in
-    let w = st.width s₀ in
     let S = st.current s₀ in
-    let z = way guide c.args.picks.now c.args.widths.now c.args.at.now
-    (waits c.args.source.now) in
+    let z = way_of g.G.Guide.ahead c.args.trail.now in
     let sh = c.args.sheet.now in
     let rules = rules_of (tree_of sh) in
     let F = mark_line (tree_of sh) in
@@ -49,31 +42,26 @@ step-requires g c =
     let inv = c.run.invariant in
     let s = c.run.store in
     let P = st.current s in
-    let y = way guide c.run.picks c.run.widths c.run.at (waits c.run.source) in
-    let k = c.run.d.fuel in
-    let gs = stack sh (spot c.run.goals c.run.frames c.run.d) in
+    let y = way_of g.G.Guide.ahead c.run.trail in
+    let k = c.run.stack.depth.fuel in
+    let gs = stack sh (spot_of c.run.stack) in
     record {
-      fields = inv.0 ∙ c.requires.fields;
-      some = subst (λ q. some q P ≡ true) (sym inv.0) inv.3;
+      fields = inv.0.0 ∙ c.requires.fields;
+      some = subst (λ q. some q P ≡ true) (sym inv.0.0) inv.3;
       fit = inv.4;
-      hold = inv.4.0.hold;
       more = c.run-test.true;
       room = work_fits rules F n S z gs k P y inv.5 c.requires.room;
     }
 
 pub run-smaller : goal.run-smaller
-run-smaller g c = c.in-Moved.ensures.left.less
+run-smaller g c = c.in_ok-step.ensures.left.less
 
 pub run-preserved : goal.run-preserved
 run-preserved g c =
     let st = g.S.Store in
-    let waits = g.R.Source.waiting in
-    let guide = c.args.guide in
     let s₀ = c.args.store.now in
-    let w = st.width s₀ in
     let S = st.current s₀ in
-    let z = way guide c.args.picks.now c.args.widths.now c.args.at.now
-    (waits c.args.source.now) in
+    let z = way_of g.G.Guide.ahead c.args.trail.now in
     let sh = c.args.sheet.now in
     let rules = rules_of (tree_of sh) in
     let F = mark_line (tree_of sh) in
@@ -81,35 +69,28 @@ run-preserved g c =
     let inv = c.run.invariant in
     let s = c.run.store in
     let P = st.current s in
-    let y = way guide c.run.picks c.run.widths c.run.at (waits c.run.source) in
-    let k = c.run.d.fuel in
-    let gs = stack sh (spot c.run.goals c.run.frames c.run.d) in
+    let y = way_of g.G.Guide.ahead c.run.trail in
+    let k = c.run.stack.depth.fuel in
+    let gs = stack sh (spot_of c.run.stack) in
     let Q = st.current c.step.new.store in
-    let y' = way guide c.step.new.picks c.step.new.widths c.step.new.at
-    (waits c.step.new.source) in
-    let s' = spot c.step.new.goals c.step.new.frames c.step.new.d in
-    let same = c.step.ensures.same in
-    let m = c.in-Moved.ensures.left in (
-      same.0 ∙ inv.0,
-      same.1 ∙ inv.1,
-      (λ m h. inv.2 m (same.2 m h)),
-      subst (λ q. some q Q ≡ true)
-          (sym c.requires.fields) m.alive,
+    let y' = way_of g.G.Guide.ahead c.step.new.trail in
+    let p' = spot_of c.step.new.stack in
+    let after = c.in_ok-step.ensures in
+    let m = after.left in (
+      narrows_join st.width st.starting st.current s₀ s c.step.new.store inv.0 after.same,
+      trails_join g.G.Guide.fixed c.args.trail.now c.run.trail c.step.new.trail inv.1 after.lists,
+      (after.held.0 ∙ inv.2.0, after.held.1 ∙ inv.2.1),
+      subst (λ q. some q Q ≡ true) (sym c.requires.fields) m.alive,
       m.fit,
-      work_more rules F n S z gs k P y inv.5 (stack sh s')
-          c.step.new.d.fuel Q y' m.took,
+      work_more rules F n S z gs k P y inv.5 (stack sh p') p'.depth.fuel Q y' m.took,
     )
 
-pub returns-in-Dead : goal.returns-in-Dead
-returns-in-Dead g c =
+pub returns-in_err-step-clause-left : goal.returns-in_err-step-clause-left
+returns-in_err-step-clause-left g c =
     let st = g.S.Store in
-    let waits = g.R.Source.waiting in
-    let guide = c.args.guide in
     let s₀ = c.args.store.now in
-    let w = st.width s₀ in
     let S = st.current s₀ in
-    let z = way guide c.args.picks.now c.args.widths.now c.args.at.now
-    (waits c.args.source.now) in
+    let z = way_of g.G.Guide.ahead c.args.trail.now in
     let sh = c.args.sheet.now in
     let rules = rules_of (tree_of sh) in
     let F = mark_line (tree_of sh) in
@@ -117,92 +98,22 @@ returns-in-Dead g c =
     let inv = c.run.invariant in
     let s = c.run.store in
     let P = st.current s in
-    let y = way guide c.run.picks c.run.widths c.run.at (waits c.run.source) in
-    let k = c.run.d.fuel in
-    let gs = stack sh (spot c.run.goals c.run.frames c.run.d) in
+    let y = way_of g.G.Guide.ahead c.run.trail in
+    let k = c.run.stack.depth.fuel in
+    let gs = stack sh (spot_of c.run.stack) in
     let Q = st.current c.step.new.store in
-    let y' = way guide c.step.new.picks c.step.new.widths c.step.new.at
-    (waits c.step.new.source) in
-    let s' = spot c.step.new.goals c.step.new.frames c.step.new.d in
-    let same = c.step.ensures.same in
-    record {
-      same = (same.0 ∙ inv.0, same.1 ∙ inv.1, λ m h. inv.2 m (same.2 m h));
-      left = work_ends
-          rules F n S z gs k P y inv.5 dead y' c.in-Dead.ensures.left;
-    }
-
-pub returns-in-Spent : goal.returns-in-Spent
-returns-in-Spent g c =
-    let st = g.S.Store in
-    let waits = g.R.Source.waiting in
-    let guide = c.args.guide in
-    let s₀ = c.args.store.now in
-    let w = st.width s₀ in
-    let S = st.current s₀ in
-    let z = way guide c.args.picks.now c.args.widths.now c.args.at.now
-    (waits c.args.source.now) in
-    let sh = c.args.sheet.now in
-    let rules = rules_of (tree_of sh) in
-    let F = mark_line (tree_of sh) in
-    let n = c.args.fuel in
-    let inv = c.run.invariant in
-    let s = c.run.store in
-    let P = st.current s in
-    let y = way guide c.run.picks c.run.widths c.run.at (waits c.run.source) in
-    let k = c.run.d.fuel in
-    let gs = stack sh (spot c.run.goals c.run.frames c.run.d) in
-    let Q = st.current c.step.new.store in
-    let y' = way guide c.step.new.picks c.step.new.widths c.step.new.at
-    (waits c.step.new.source) in
-    let s' = spot c.step.new.goals c.step.new.frames c.step.new.d in
-    let same = c.step.ensures.same in
-    record {
-      same = (same.0 ∙ inv.0, same.1 ∙ inv.1, λ m h. inv.2 m (same.2 m h));
-      left = work_ends
-          rules F n S z gs k P y inv.5 spent y' c.in-Spent.ensures.left;
-    }
-
-pub returns-in-Halted : goal.returns-in-Halted
-returns-in-Halted g c =
-    let st = g.S.Store in
-    let waits = g.R.Source.waiting in
-    let guide = c.args.guide in
-    let s₀ = c.args.store.now in
-    let w = st.width s₀ in
-    let S = st.current s₀ in
-    let z = way guide c.args.picks.now c.args.widths.now c.args.at.now
-    (waits c.args.source.now) in
-    let sh = c.args.sheet.now in
-    let rules = rules_of (tree_of sh) in
-    let F = mark_line (tree_of sh) in
-    let n = c.args.fuel in
-    let inv = c.run.invariant in
-    let s = c.run.store in
-    let P = st.current s in
-    let y = way guide c.run.picks c.run.widths c.run.at (waits c.run.source) in
-    let k = c.run.d.fuel in
-    let gs = stack sh (spot c.run.goals c.run.frames c.run.d) in
-    let Q = st.current c.step.new.store in
-    let y' = way guide c.step.new.picks c.step.new.widths c.step.new.at
-    (waits c.step.new.source) in
-    let s' = spot c.step.new.goals c.step.new.frames c.step.new.d in
-    let same = c.step.ensures.same in
-    record {
-      same = (same.0 ∙ inv.0, same.1 ∙ inv.1, λ m h. inv.2 m (same.2 m h));
-      left = work_halt
-          rules F n S z gs k P y inv.5 y' c.in-Halted.ensures.left;
-    }
+    let y' = way_of g.G.Guide.ahead c.step.new.trail in
+    let p' = spot_of c.step.new.stack in
+    let i = c.from_residual.ensures in
+    work_stop rules F n S z gs k P y inv.5 (st.width s₀) sh p' c.in_err-step.field-0.0 c.from_residual.result Q y'
+    refl (grind arith) c.in_err-step.ensures.left
 
 pub returns : goal.returns
 returns g c =
     let st = g.S.Store in
-    let waits = g.R.Source.waiting in
-    let guide = c.args.guide in
     let s₀ = c.args.store.now in
-    let w = st.width s₀ in
     let S = st.current s₀ in
-    let z = way guide c.args.picks.now c.args.widths.now c.args.at.now
-    (waits c.args.source.now) in
+    let z = way_of g.G.Guide.ahead c.args.trail.now in
     let sh = c.args.sheet.now in
     let rules = rules_of (tree_of sh) in
     let F = mark_line (tree_of sh) in
@@ -210,12 +121,13 @@ returns g c =
     let inv = c.run.invariant in
     let s = c.run.store in
     let P = st.current s in
-    let y = way guide c.run.picks c.run.widths c.run.at (waits c.run.source) in
-    let k = c.run.d.fuel in
-    let gs = stack sh (spot c.run.goals c.run.frames c.run.d) in
-    let none : c.run.d.goals ≡ 0 = omega (arith, c.run-test.false) in
+    let y = way_of g.G.Guide.ahead c.run.trail in
+    let k = c.run.stack.depth.fuel in
+    let gs = stack sh (spot_of c.run.stack) in
+    let none : c.run.stack.depth.goals ≡ 0 = omega (arith, c.run-test.false) in
     record {
-      same = (inv.0, inv.1, inv.2);
-      left = work_done rules F n S z gs k P y inv.5 w inv.3
-          (ap (pending sh c.run.goals c.run.frames) none);
+      same = inv.0;
+      lists = inv.1;
+      left = work_done rules F n S z gs k P y inv.5 (st.width s₀) inv.3
+          (ap (pending sh c.run.stack.goals.now c.run.stack.frames.now) none);
     }

@@ -2,27 +2,24 @@ use Rattle.std.proofs.Common.{◌≡◌, true}
 use Rattle.marks.specs.Counted.{some}
 use Rattle.meaning.specs.Terms.{rules_of, mark_line}
 use Rattle.sheet.specs.Sheets.{tree_of}
-use Rattle.run.specs.Answering.{Inside}
-use Rattle.run.specs.Ways.{way}
-use Rattle.run.specs.Goals.{spot, stack, Fit, weight}
+use Rattle.run.specs.Ways.{way_of, SameTrail}
+use Rattle.run.specs.Settling.{Narrows}
+use Rattle.run.specs.Goals.{spot_of, SameStack, stack, Fit, weight}
 use Rattle.run.proofs.Works.{Whole}
 use Rattle.run.proofs.work.work.Given as goal
 
 abbrev pub invariant-run : goal.invariant-run
 invariant-run g l =
     let st = g.S.Store in
-    let waits = g.R.Source.waiting in
-    let guide = l.guide in
-    let p = spot l.goals l.frames l.d in
-    (st.width l.store ≡ st.width l.initial.store)
-    × (st.starting l.store ≡ st.starting l.initial.store)
-    × Inside (st.current l.store) (st.current l.initial.store)
+    let p = spot_of l.stack in
+    Narrows st.width st.starting st.current l.initial.store l.store
+    × SameTrail g.G.Guide.fixed l.initial.trail l.trail
+    × SameStack l.initial.stack l.stack
     × (some (st.width l.initial.store) (st.current l.store) ≡ true)
     × Fit l.sheet p
-    × Whole (rules_of (tree_of l.sheet)) (mark_line (tree_of l.sheet)) l.fuel
-    (st.current l.initial.store) (way guide l.initial.picks l.initial.widths l.initial.at
-    (waits l.initial.source)) (stack l.sheet p) l.d.fuel (st.current l.store)
-    (way guide l.picks l.widths l.at (waits l.source))
+    × Whole (rules_of (tree_of l.sheet)) (mark_line (tree_of l.sheet)) l.fuel (st.current l.initial.store)
+    (way_of g.G.Guide.ahead l.initial.trail) (stack l.sheet p) p.depth.fuel (st.current l.store)
+    (way_of g.G.Guide.ahead l.trail)
 
 abbrev pub decreases-run : goal.decreases-run
-decreases-run g l = weight l.sheet (stack l.sheet (spot l.goals l.frames l.d)) l.d.fuel
+decreases-run g l = weight l.sheet (stack l.sheet (spot_of l.stack)) l.stack.depth.fuel

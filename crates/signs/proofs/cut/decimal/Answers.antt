@@ -1,15 +1,17 @@
-use Rattle.std.proofs.Common.{◌+◌, ◌-◌, ◌<◌, get_or, sym, ap, ◌∙◌, arith, rules}
-use Rattle.signs.specs.Bytes.{value_after}
-use Rattle.signs.proofs.Scans.{part_more, digit_more}
+use Rattle.std.proofs.Common.{◌≡◌, ◌+◌, ◌*◌, ◌<◌, drop, refl, true, sym, ap, ◌∙◌, rules}
+use Rattle.std.proofs.ByRecursion.{All-get_or}
+use Rattle.std.proofs.lemmas.List.{drop_more}
+use Rattle.signs.specs.Bytes.{digit, value_after}
+use Rattle.signs.proofs.Scans.{digit_more}
 use Rattle.signs.proofs.cut.decimal.Goals as goal
 
-pub loop-i-preserved : goal.loop-i-preserved
-loop-i-preserved c =
-    let text = c.args.text.now in
-    let i = c.loop-i.i in
-    let lt = c.loop-i-test.true in
-    let d = c.requires.run.all i c.loop-i.auto.i lt in
-    let small : get_or text i 0 - 48 < 10 = search (rules, d) in (
-      digit_more (i - c.args.place) (i + 1 - c.args.place) _ _ (omega arith) c.loop-i.invariant.0 small,
-      sym (ap (value_after c.loop-i.n) (part_more text i c.args.end lt (omega arith))) ∙ c.loop-i.invariant.1,
+pub loop-byte-preserved : goal.loop-byte-preserved
+loop-byte-preserved c =
+    let digits = c.args.digits.now in
+    let i = c.loop-byte.byte-index in
+    let d = All-get_or (λ b. digit b ≡ true) digits i 0 c.loop-byte-test.true c.requires.digits in
+    let small : c.from.result < 10 = search (rules, d) in (
+      digit_more i _ _ _ refl c.loop-byte.invariant.0 small,
+      ap (λ k. value_after (c.loop-byte.n * 10 + k) (drop (i + 1) digits)) c.from.ensures
+          ∙ sym (ap (value_after c.loop-byte.n) (drop_more digits i 0 c.loop-byte-test.true)) ∙ c.loop-byte.invariant.1,
     )

@@ -1,6 +1,5 @@
 use Rattle.std.proofs.Common.{refl, arith}
-use Rattle.signs.specs.Cutting.{over_limit}
-use Rattle.signs.proofs.Scans.{word_here, length_part}
+use Rattle.signs.proofs.Scans.{word_here, length_part, over_here}
 use Rattle.signs.proofs.Spelling.{spelling_some}
 use Rattle.signs.proofs.cut.word.Goals as goal
 
@@ -8,7 +7,7 @@ pub returns-then-end-place-gt16 : goal.returns-then-end-place-gt16
 returns-then-end-place-gt16 c =
     let run = c.run_end-end.ensures in
     let n = length_part c.args.text.now c.args.place c.run_end-end.result run.from run.within in
-    (refl, over_limit (word_here run c.requires.inside c.requires.begins) (λ h. omega arith))
+    over_here _ _ c.over_limit.ensures (word_here run c.requires.inside c.requires.begins) (λ h. omega arith)
 
 pub returns : goal.returns
 returns c =

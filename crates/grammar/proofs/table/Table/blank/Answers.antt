@@ -1,19 +1,13 @@
-use Rattle.std.proofs.Common.{refl, lit≤}
-use Rattle.grammar.specs.Tables.{no_rules}
+use Rattle.std.proofs.Common.{lit≤, map, ap}
+use Rattle.grammar.specs.Tables.{no_rules, field_of}
 use Rattle.grammar.proofs.table.Table.blank.Goals as goal
 
-pub returns : goal.returns
-returns c =
+pub returns-clause-lines : goal.returns-clause-lines
+returns-clause-lines c = λ text.
+    let none = c.default.ensures in
     record {
-      lines = λ text.
-          record {
-            field_count = refl;
-            few_fields = lit≤ tt;
-            fields_held = refl;
-            rule_count = refl;
-            few_rules = lit≤ tt;
-            rules_held = no_rules;
-          };
-      entries = refl;
-      over = refl;
+      few_fields = lit≤ tt;
+      fields_held = ap (map (field_of text)) none.0;
+      few_rules = lit≤ tt;
+      rules_held = rw none.1.0 no_rules;
     }

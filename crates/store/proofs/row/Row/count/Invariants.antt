@@ -3,5 +3,5 @@ use Rattle.marks.specs.Counted.{below}
 use Rattle.store.specs.Rows.{has}
 use Rattle.store.proofs.row.Row.count.Given as goal
 
-abbrev pub invariant-loop-v : goal.invariant-loop-v
-invariant-loop-v l = l.found ≡ length (below (has l.self) l.v)
+abbrev pub invariant-loop-present : goal.invariant-loop-present
+invariant-loop-present l = l.found ≡ length (below (has l.self) l.present-index)

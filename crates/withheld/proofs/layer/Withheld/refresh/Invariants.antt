@@ -2,11 +2,11 @@ use Rattle.std.proofs.Common.{◌≡◌, take}
 use Rattle.withheld.specs.Withholding.{without}
 use Rattle.withheld.proofs.layer.Withheld.refresh.Given as goal
 
-abbrev pub invariant-loop-i : goal.invariant-loop-i
-invariant-loop-i g l =
+abbrev pub invariant-loop-pair : goal.invariant-loop-pair
+invariant-loop-pair g l =
     let s = g.S.Store in
-    (l.self.pairs ≡ l.initial.self.pairs)
-    × (l.self.count ≡ l.initial.self.count)
-    × (s.width l.self.lower ≡ s.width l.initial.self.lower)
-    × (s.starting l.self.lower ≡ s.starting l.initial.self.lower)
-    × (s.current l.self.lower ≡ without (take l.i l.self.pairs) (s.starting l.self.lower))
+    record {
+      width : s.width l.lower ≡ s.width l.initial.lower;
+      starting : s.starting l.lower ≡ s.starting l.initial.lower;
+      left : s.current l.lower ≡ without (take l.pair-index l.pair-items) (s.starting l.lower);
+    }

@@ -1,4 +1,0 @@
-use Rattle.advice.proofs.put.+number.Given as goal
-
-abbrev pub decreases-number : goal.decreases-number
-decreases-number l = l.value

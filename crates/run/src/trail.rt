@@ -1,0 +1,36 @@
+// The entries that a run writes as it goes, and what tells its picks.
+ghost use Rattle.std.specs.Prelude.{◌≡◌, ℕ};
+ghost use Rattle.run.specs.Ways.{choice_of, Usable, Room, way_of, SameTrail, Chosen};
+
+use crate::guide::{Choice, Entry, Guide};
+
+// The two trace lists, how many entries of them are written, and what tells the picks. The lists are the caller's,
+// with places counted by hand, since a run allocates nothing.
+#[derive(Drop)]
+pub(crate) struct Trail<'a, G> {
+    pub(crate) picks: &'a mut [u16],
+    pub(crate) widths: &'a mut [u16],
+    pub(crate) at: usize,
+    pub(crate) guide: G,
+}
+
+impl<G: Guide> Trail<'_, G> {
+    // Makes a choice: writes its pick and its width at the end, or writes nothing where no pick is told.
+    pub(crate) fn choose(&mut self, choice: Choice) -> Option<u16>
+        requires usable { Usable choice }
+        requires room { Room 1 (way_of G.ahead self.old).trail }
+        ensures lists { SameTrail G.fixed self.old self.new }
+        ensures left { Chosen (choice_of choice) (way_of G.ahead self.old) result (way_of G.ahead self.new) }
+    {
+        let at = self.at;
+        let entry = Entry {
+            pick: self.picks[at],
+            width: self.widths[at],
+        };
+        let pick = self.guide.tell(choice, at, entry)?;
+        self.picks[at] = pick;
+        self.widths[at] = choice.width();
+        self.at = at + 1;
+        Some(pick)
+    }
+}
