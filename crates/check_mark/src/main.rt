@@ -6,10 +6,7 @@ use refusal::Refusal;
 use sheet::table::Sheet;
 use std::io::{BufWriter, Write};
 use std::{env, io};
-use streams::put;
-
-// One byte more than a text may have: enough to see that it is too long.
-const ENOUGH: usize = 32769;
+use streams::{TEXT_ROOM, put};
 
 // What the arguments ask for.
 #[derive(Drop)]
@@ -24,7 +21,7 @@ fn main(rt: HostRuntime) -> io::Result<()> {
         return Err(io::Error::other("no fuel, or a word that is no number"));
     };
     // Each program reads its text by these lines: a function of a library for them would allocate.
-    let mut text = vec![in rt.alloc(); 0u8; ENOUGH]?;
+    let mut text = vec![in rt.alloc(); 0u8; TEXT_ROOM]?;
     let size = streams::fill(&mut rt.stdin(), &mut text)?;
     text.truncate(size);
     let mut line = [0u8; 64];

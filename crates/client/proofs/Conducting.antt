@@ -1,5 +1,5 @@
 -- What a session leaves, by the law of its walk.
-use Rattle.std.proofs.Common.{◌≡◌, ℕ, true, false, List, [], ◌∷◌, ◌++◌, length, Some, None, Option, sym, refl, ap, ◌∙◌, subst, inl, inr, zero-add, arith}
+use Rattle.std.proofs.Common.{◌≡◌, ℕ, Bool, true, false, List, [], ◌∷◌, ◌++◌, length, Some, None, Option, sym, refl, ap, ◌∙◌, subst, inl, inr, zero-add, arith}
 use Rattle.formula.specs.Trees.{Sheet}
 use Rattle.marks.specs.Sets.{Marks}
 use Rattle.meaning.specs.Reading.{Allowed}
@@ -12,10 +12,24 @@ use Rattle.walk.specs.Law.{Law, History, Stage, running, closed, Among}
 use Rattle.client.specs.declared.call.Call.{Call}
 use Rattle.client.specs.declared.call.Taken.{Taken}
 use Rattle.client.specs.Sessions.{ended, numbers_in, put_at, Takes, FiguresAre, CallsMade, Conducted}
+use Rattle.client.proofs.Taking.{takes_none}
 
 -- nothing taken yet
 abbrev pub nothing : Taken
 nothing = record { entries = 0; finished = false }
+
+abbrev took : ℕ → Bool → Taken
+took k b = record { entries = k; finished = b }
+
+-- no call takes a session from nothing to what has no entry and is not finished
+pub takes_nothing :
+    (s : Sheet) (n : ℕ) (z : Stage) (t : Taken) (list : List ℕ)
+    → t.entries ≡ 0
+    → t.finished ≡ false
+    → Takes s n z nothing list [] z t list
+takes_nothing s n z t list e f =
+    subst (λ (x : Taken). Takes s n z nothing list [] z x list)
+    (sym (ap (λ k. took k t.finished) e ∙ ap (λ b. took 0 b) f)) (takes_none s n z nothing list)
 
 among_ended : (rs : List Reply) → Among finished rs → ended rs ≡ true
 among_ended [] h = elim h [ ]

@@ -34,7 +34,8 @@ pub put_more :
 put_more k xs ys list h =
     let front = take k list in
     let rest = drop (k + length xs) list in
-    let long : length (front ++ xs) ≡ k + length xs = length-append front xs ∙ ap (λ z. z + length xs) (length-take-le k list h) in
+    let long : length (front ++ xs) ≡ k + length xs =
+    length-append front xs ∙ ap (λ z. z + length xs) (length-take-le k list h) in
     let parted : put_at k xs list ≡ (front ++ xs) ++ rest = sym (append_assoc front xs rest) in
     let before : take (k + length xs) (put_at k xs list) ≡ front ++ xs =
     ap (take (k + length xs)) parted ∙ take_at (front ++ xs) rest (k + length xs) long in

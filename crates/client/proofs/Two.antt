@@ -71,5 +71,6 @@ pub two_apart :
     → ⊥
 two_apart s n n₁ w v v' x y q r a b b' law p e o g h back same =
     let first = subst (λ (z : Result Answer Refusal). Nexts s n w x z v a) g p in
-    let second = subst (λ (z : Result Answer Refusal). Nexts s n v y z v' b) h (subst (λ (k : ℕ). Nexts s k v y r v' b) e o) in
+    let second =
+    subst (λ (z : Result Answer Refusal). Nexts s n v y z v' b) h (subst (λ (k : ℕ). Nexts s k v y r v' b) e o) in
     (law.no_mark_twice (next (next none x (Ok Mark) a first) y (Ok Mark) b second)).0 (inl (same ∙ ap (take n) back))

@@ -21,13 +21,12 @@ use sheet::table::Sheet;
 use source::Source;
 use std::ops::ControlFlow;
 use store::Store;
+use walk::MOST_ENTRIES;
 use walk::answer::{Answer, Tallies};
 use walk::state::Walk;
 
-// The most entries that a draw's own lists need.
-const ENTRIES: usize = 4104;
-
-// A draw with lists of its own, for practice.
+// A draw for practice. Its trace and its mark stand in lists of its own, so it takes only the two lists that it may
+// write over, and not the session's `Lists`.
 fn practise<S: Store, R: Source>(
     fuel: u8,
     sheet: &Sheet,
@@ -40,8 +39,8 @@ fn practise<S: Store, R: Source>(
     ensures drawn { Draws (tree_of sheet.now) (S.width store.old)
         (S.starting store.old) fuel }
 {
-    let mut picks = [0u16; ENTRIES];
-    let mut widths = [0u16; ENTRIES];
+    let mut picks = [0u16; MOST_ENTRIES];
+    let mut widths = [0u16; MOST_ENTRIES];
     let mut mark = [0u16; 8];
     let mut lists = Lists {
         picks: &mut picks,
@@ -139,10 +138,11 @@ fn issue<S: Store>(
         lists.frames,
         &mut lists.mark[from..end],
     );
-    taken.note(answer, sheet.field_count);
+    taken.note(answer, sheet.field_count());
 }
 
-// One call. It leaves the walk, which goes on, or the closing figures.
+// One call. It leaves the walk, which goes on, or the closing figures. The parameters are no struct: it would be made
+// only to be taken apart again by each arm.
 pub(crate) fn act<S: Store, R: Source>(
     call: Call,
     asked: &[u16],

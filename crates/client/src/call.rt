@@ -2,7 +2,7 @@
 use walk::answer::Tallies;
 
 // A call on a walk, its sheet and its store: a draw and a check with a fuel of their own.
-#[derive(Clone, Copy)]
+#[derive(Clone, Copy, Debug, PartialEq, Eq)]
 pub enum Call {
     Next,
     Draw(u8),
@@ -13,14 +13,14 @@ pub enum Call {
 
 // How many entries of the list of marks are filled, and whether a next answered finished. No Option: the entries stand
 // whether finished was answered or not.
-#[derive(Clone, Copy)]
+#[derive(Clone, Copy, Debug, PartialEq, Eq, Default)]
 pub struct Taken {
     pub entries: usize,
     pub finished: bool,
 }
 
 // What a session took, and the closing figures where it closed its walk.
-#[derive(Clone, Copy)]
+#[derive(Clone, Copy, Debug, PartialEq, Eq)]
 pub struct Session {
     pub taken: Taken,
     pub figures: Option<Tallies>,

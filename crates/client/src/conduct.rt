@@ -13,7 +13,8 @@ use store::Store;
 use walk::start;
 
 // Starts a walk and makes the calls in their order, up to a close that is not refused. The marks that are issued stand
-// one after the other at the front of the mark list; checks read the mark that is asked for.
+// one after the other at the front of the mark list; checks read the mark that is asked for. The parameters are no
+// struct: a caller would make one of its loans for this call alone.
 pub fn conduct<S: Store, R: Source>(
     calls: &[Call],
     asked: &[u16],
@@ -28,10 +29,7 @@ pub fn conduct<S: Store, R: Source>(
         (S.starting store.old) calls.now lists.old.mark.now result lists.new.mark.now }
 {
     let mut walk = start(fuel);
-    let mut taken = Taken {
-        entries: 0,
-        finished: false,
-    };
+    let mut taken = Taken::default();
     for call in calls {
         match act(*call, asked, walk, sheet, store, source, lists, &mut taken) {
             ControlFlow::Continue(on) => walk = on,

@@ -19,10 +19,10 @@ pub mod call;
 pub mod conduct;
 
 // Whether a next issued a mark.
-fn is_mark(r: Result<Answer, Refusal>) -> bool
-    ensures { result ≡ issues r }
+fn is_mark(answer: Result<Answer, Refusal>) -> bool
+    ensures { result ≡ issues answer }
 {
-    matches!(r, Ok(Answer::Mark))
+    matches!(answer, Ok(Answer::Mark))
 }
 
 // Two nexts of one walk, the first over the mark list and the next over a second one; if both issue a mark, the marks

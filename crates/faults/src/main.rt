@@ -35,7 +35,8 @@ fn put_told<W: Write>(text: &[u8], out: &mut W) -> io::Result<()> {
     put(tell(text, &mut line), &line, out)
 }
 
-// Makes the line of one sheet's contents, or of its fault.
+// Makes the line of one sheet's contents, or of its fault. std has no `From<usize>` for `u64`, so the counts are cast.
+// `proofread` has the same few lines: a function of `lines` over what `names` found would have it stand on `names`.
 fn tell(text: &[u8], line: &mut [u8]) -> Result<usize, Refusal> {
     let mut sheet = Sheet::blank();
     match names::read(text, &mut sheet) {

@@ -4,7 +4,7 @@ use Rattle.refusal.specs.declared.Fault.{Fault}
 use Rattle.grammar.specs.declared.token.Class.{Class}
 use Rattle.grammar.specs.declared.token.Class.TheVariants as class
 use Rattle.grammar.specs.declared.token.Ahead.{Ahead}
-use Rattle.grammar.specs.declared.list.Few.{Few}
+use Rattle.grammar.specs.declared.few.Few.{Few}
 use Rattle.grammar.specs.Grammar.{Tokens, Parted, last, next, Listed, none, some}
 use Rattle.grammar.specs.Moves.{State, Halts, goes_on}
 use Rattle.grammar.specs.Parsing.{Left, says_closing, says_comma, Seen, a_token, Peeked, Stopped, Came, Holds4, Listing, Brackets, ItemRead, ItemsRead, Begun}

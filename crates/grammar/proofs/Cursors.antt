@@ -8,8 +8,8 @@ use Rattle.grammar.specs.declared.table.Number.{Number as NumberEntry}
 use Rattle.grammar.specs.declared.token.Class.{Class}
 use Rattle.grammar.specs.declared.token.Class.TheVariants as class
 use Rattle.grammar.specs.declared.token.Ahead.{Ahead}
-use Rattle.grammar.specs.Parsing.{Read, read_to, passed_to, Peeked, Along, Sees, Takes, Passes, Taken, Asked, name_in, number_in, sign_in, NameRead, NumberRead, SignRead}
-use Rattle.grammar.proofs.Leaves.{no, refused_at, name_read, name_stops, number_read, number_stops, sign_read, sign_stops, fixed_read, fixed_stops}
+use Rattle.grammar.specs.Parsing.{Read, read_to, Peeked, Along, Sees, Takes, Taken, name_in, number_in, sign_in, NameRead, NumberRead, SignRead}
+use Rattle.grammar.proofs.Leaves.{no, refused_at, name_read, name_stops, number_read, number_stops, sign_read, sign_stops}
 
 pub sees : (c : Cursor) {h : Ahead} → Peeked c.text.now c.at h → Sees c h
 sees c {h} k text e = subst (λ z. Peeked z c.at h) e k
@@ -81,22 +81,6 @@ sign_taken b a h o r k e t =
     taken b a h o r SignRead k t
     (λ text p v is. sign_read text b.at h p v (signed h.class v (sym e ∙ is)))
     (λ text p is. sign_stops text b.at h p _ refl (λ v q. no (cc)))
-
-pub fixed_taken :
-    (b a : Cursor) (h : Ahead) (k : Class) (o : Option (Unit {0})) (r : Result (Unit {0}) Fault)
-    → Sees b h
-    → (o ≡ Some tt → h.class ≡ k)
-    → (h.class ≡ k → o ≡ Some tt)
-    → Taken b a h o r
-    → Passes b a r (Asked k)
-fixed_taken b a h k (Some v) r s f g (e, at, same) =
-    along b a _ same
-    (subst (λ x. Asked k b.text.now b.at (passed_to a.at x)) (sym e)
-    (subst (λ q. Asked k b.text.now b.at (Ok q)) (sym at) (λ j i. fixed_read _ _ h (s _ refl) i (f refl))))
-fixed_taken b a h k None r s f g (e, same) =
-    along b a _ same
-    (subst (λ x. Asked k b.text.now b.at (passed_to a.at x)) (sym e)
-    (λ j i. fixed_stops _ _ h (s _ refl) i _ refl (λ q. let z = g q in no (cc))))
 
 -- the place of a cursor lies in its text
 pub within : (c : Cursor) (text : List ℕ) → c.text.now ≡ text → c.at ≤ length text

@@ -11,7 +11,7 @@ use Rattle.grammar.specs.declared.table.Node.{Node}
 use Rattle.grammar.specs.declared.table.Node.TheVariants.{Compared, Called, Negated, Picked, Joined}
 use Rattle.grammar.specs.declared.table.Table.{Table}
 use Rattle.grammar.specs.declared.formula_part.Part.{Part}
-use Rattle.grammar.specs.declared.list.Few.{Few}
+use Rattle.grammar.specs.declared.few.Few.{Few}
 use Rattle.grammar.specs.Syntax.{Formula, compared, called, negated, picked, joined}
 use Rattle.grammar.specs.Tables.{word_of, term_of, weights_of, node_at, Entries, a_comparison, a_call, a_not, a_pick, a_join}
 use Rattle.grammar.specs.Parsing.{Holds4, entered, Grown, Pushed, Entered}

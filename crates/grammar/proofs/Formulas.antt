@@ -12,7 +12,7 @@ use Rattle.grammar.specs.declared.token.Ahead.{Ahead}
 use Rattle.grammar.specs.declared.table.Node.TheVariants as node
 use Rattle.grammar.specs.declared.table.Table.{Table}
 use Rattle.grammar.specs.declared.formula_part.Part.{Part}
-use Rattle.grammar.specs.declared.list.Few.{Few}
+use Rattle.grammar.specs.declared.few.Few.{Few}
 use Rattle.grammar.specs.Syntax.{Word, word, num, Term, given, compared, called}
 use Rattle.grammar.specs.Grammar as gram
 use Rattle.grammar.specs.Grammar.{Tok, name, number, not, pick, join, sign, opening, closing, colon, at, Tokens, Listed, IsName, a_name, IsTerm, a_constant, IsWeights, no_weights, Level, any, only, Fits, strict, Kind, unit, formula, Reads, a_comparison, a_call, a_not, a_pick, brackets, alone}

@@ -9,7 +9,7 @@ use Rattle.grammar.specs.declared.token.Class.TheVariants as class
 use Rattle.grammar.specs.declared.token.Ahead.{Ahead}
 use Rattle.grammar.specs.declared.table.Table.{Table}
 use Rattle.grammar.specs.declared.formula_part.Part.{Part}
-use Rattle.grammar.specs.declared.list.Few.{Few}
+use Rattle.grammar.specs.declared.few.Few.{Few}
 use Rattle.grammar.specs.declared.body.Body.{Body}
 use Rattle.grammar.specs.declared.line.Head.{Head}
 use Rattle.grammar.specs.Syntax.{Word, Number, Formula, Field, field_line, Rule, rule_line, Mark, mark_line, sheet}
@@ -346,6 +346,20 @@ mark_item {text} q part {us} g kept (a_body {e = e} {f = f} r en) z = (
 end_of : {text : List ℕ} {q e : ℕ} {xs : Tokens} → Seen text xs class.End q e → xs ≡ []
 end_of (no_token g) = refl
 end_of (a_token s l) = elim s [ ]
+
+pub body_at :
+    (text : List ℕ) (p q : ℕ) (b a : Table) (x : Read Body)
+    → p ≡ q
+    → BodyRead text p b a (Ok x)
+    → BodyRead text q b a (Ok x)
+body_at text p q b a x e o = subst (λ z. BodyRead text z b a (Ok x)) e o
+
+pub body_at_stops :
+    (text : List ℕ) (p q : ℕ) (b : Table) (f : Fault)
+    → p ≡ q
+    → BodyRead text p b b (Err f)
+    → BodyRead text q b b (Err f)
+body_at_stops text p q b f e o = subst (λ z. BodyRead text z b b (Err f)) e o
 
 module _ (text : List ℕ) (p : ℕ) (b : Table) (h : Ahead) (k : Peeked text p h) where
   mark_stopped :

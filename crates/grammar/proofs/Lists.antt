@@ -1,7 +1,7 @@
 -- Lists of which four items are kept and all are counted.
 use Rattle.std.proofs.Common.{◌≡◌, ◌+◌, ◌<◌, ◌≤◌, List, [], ◌∷◌, ◌++◌, length, set, sym, ap, ◌∙◌, subst, arith, length-append, length-set}
 use Rattle.std.proofs.lemmas.List.{take_all, take-append-le, take_more_set}
-use Rattle.grammar.specs.declared.list.Few.{Few}
+use Rattle.grammar.specs.declared.few.Few.{Few}
 use Rattle.grammar.specs.Parsing.{Holds4}
 
 module _ (X : Type 0) (list : Few X) (x : X) (all : List X) (h : Holds4 X list all) where

@@ -59,15 +59,25 @@ no_first :
 no_first z (asked is_field) says_field = z refl
 
 module _ (text : List ℕ) (p : ℕ) (h : Ahead) (k : Peeked text p h) where
-  pub first_read :
+  first_begun :
       (b a : Table) (r : Result ℕ Fault)
       → h.class ≡ class.Field
       → FieldRead text h.end h.place b a r
       → FirstRead text p b a r
-  first_read b a (Ok q) is o =
+  first_begun b a (Ok q) is o =
       let g = real text p h k (λ e. no (cc)) in
       (omega (arith, g.0, o.0), o.1, λ xs l. first_came o (seen_as text p h k is xs l))
-  first_read b a (Err f) is o = λ xs l. first_stopped b a o (seen_as text p h k is xs l)
+  first_begun b a (Err f) is o = λ xs l. first_stopped b a o (seen_as text p h k is xs l)
+
+  pub first_read :
+      (b a : Table) (r : Result ℕ Fault) (i e : ℕ)
+      → h.class ≡ class.Field
+      → i ≡ h.place
+      → e ≡ h.end
+      → FieldRead text e i b a r
+      → FirstRead text p b a r
+  first_read b a r i e is there ended o = first_begun b a r is
+      (subst (λ z. FieldRead text z h.place b a r) ended (subst (λ z. FieldRead text e z b a r) there o))
 
   pub first_stops :
       (b : Table) (f : Fault)

@@ -24,6 +24,35 @@ use Rattle.grammar.proofs.Entering.{entered_not, entered_pick, entered_join}
 
 -- Units
 
+-- the levels that are allowed within one, said of the levels with it
+pub unit_within :
+    (text : List ℕ) (d e p : ℕ) (b a : Table) (x : Read Part)
+    → e ≡ d - 1
+    → UnitRead text e p b a (Ok x)
+    → UnitRead text (d - 1) p b a (Ok x)
+unit_within text d e p b a x q u = subst (λ z. UnitRead text z p b a (Ok x)) q u
+
+pub unit_within_stops :
+    (text : List ℕ) (d e p : ℕ) (b : Table) (f : Fault)
+    → e ≡ d - 1
+    → UnitRead text e p b b (Err f)
+    → UnitRead text (d - 1) p b b (Err f)
+unit_within_stops text d e p b f q u = subst (λ z. UnitRead text z p b b (Err f)) q u
+
+pub formula_within :
+    (text : List ℕ) (d e p : ℕ) (b a : Table) (x : Read Part)
+    → e ≡ d - 1
+    → FormulaRead text e any p b a (Ok x)
+    → FormulaRead text (d - 1) any p b a (Ok x)
+formula_within text d e p b a x q u = subst (λ z. FormulaRead text z any p b a (Ok x)) q u
+
+pub formula_within_stops :
+    (text : List ℕ) (d e p : ℕ) (b : Table) (f : Fault)
+    → e ≡ d - 1
+    → FormulaRead text e any p b b (Err f)
+    → FormulaRead text (d - 1) any p b b (Err f)
+formula_within_stops text d e p b f q u = subst (λ z. FormulaRead text z any p b b (Err f)) q u
+
 no_unit :
     {text : List ℕ} {k : Class} {d : ℕ} {l : Level} {o : Open} {t : Tok} {i : ℕ} {n : Need} {u : State}
     → ((m : ℕ) → k ≡ class.Number m → ⊥)

@@ -1,10 +1,10 @@
 -- Only private contracts and proofs cite this file: what the inner functions of the parser answer.
 -- They work with places in the text. `Left text p xs` says which tokens are left from a place on.
-use Rattle.std.specs.Prelude.{◌≡◌, ℕ, ◌+◌, ◌<◌, ◌≤◌, cond, ◌⊎◌, List, [], ◌∷◌, ◌++◌, map, length, take, Option, Some, None, Ok, Err, codes, Result, ◌≢◌}
+use Rattle.std.specs.Prelude.{◌≡◌, ℕ, ◌+◌, ◌-◌, ◌<◌, ◌≤◌, cond, ◌⊎◌, List, [], ◌∷◌, ◌++◌, map, length, take, Option, Some, None, Ok, Err, codes, Result, ◌≢◌}
 use Rattle.std.specs.Str.{bytes_eq}
 use Rattle.arrayvec.specs.ArrayVec.{array_vec_len}
 use Rattle.refusal.specs.declared.Fault.{Fault}
-use Rattle.refusal.specs.declared.Refusal.TheVariants.{TokenNotPermitted}
+use Rattle.refusal.specs.declared.Refusal.TheVariants.{TokenNotPermitted, TooDeep}
 use Rattle.refusal.specs.Table as table
 use Rattle.formula.specs.declared.Comparison.{Comparison}
 use Rattle.formula.specs.declared.Join.{Join}
@@ -23,7 +23,7 @@ use Rattle.grammar.specs.declared.table.FieldLine.{FieldLine}
 use Rattle.grammar.specs.declared.formula_part.Part.{Part}
 use Rattle.grammar.specs.declared.body.Body.{Body}
 use Rattle.grammar.specs.declared.line.Head.{Head}
-use Rattle.grammar.specs.declared.list.Few.{Few}
+use Rattle.grammar.specs.declared.few.Few.{Few}
 use Rattle.grammar.specs.declared.cursor.Cursor.{Cursor}
 use Rattle.grammar.specs.declared.token.Class.{Class}
 use Rattle.grammar.specs.declared.token.Class.TheVariants as class
@@ -117,6 +117,11 @@ Along b a P = (text : List ℕ) → b.text.now ≡ text → (a.text.now ≡ text
 abbrev pub Sees : Cursor → Ahead → Type 0
 Sees c h = (text : List ℕ) → c.text.now ≡ text → Peeked text c.at h
 
+-- the levels that are allowed within the one that the token opens, of d with it; of none, it opens one too many
+abbrev pub Deeper : Ahead → ℕ → Result ℕ Fault → Type 0
+Deeper h d (Ok e) = (0 < d) × (e ≡ d - 1)
+Deeper h d (Err f) = (d ≡ 0) × (f ≡ record { refusal = TooDeep; place = h.place })
+
 -- what is read moves the cursor past it
 abbrev pub Takes : {A : Type 0} → Cursor → Cursor → Result A Fault → (List ℕ → ℕ → Result (Read A) Fault → Type 0) → Type 0
 Takes b a r Item = Along b a (λ text. Item text b.at (read_to a.at r))
@@ -130,6 +135,18 @@ abbrev pub Taken : {A : Type 0} → Cursor → Cursor → Ahead → Option A →
 Taken b a h (Some v) r = (r ≡ Ok v) × (a.at ≡ h.end) × (a.text.now ≡ b.text.now)
 Taken b a h None r =
     (r ≡ Err (record { refusal = TokenNotPermitted; place = h.place })) × (a.text.now ≡ b.text.now)
+
+-- so too for what is found in the token ahead
+abbrev pub Finds : {A : Type 0} → (Ahead → Option A → Type 0) → Cursor → Cursor → Result A Fault → Type 0
+Finds {A} found b a r = (h : Ahead) × (o : Option A) × Sees b h × found h o × Taken b a h o r
+
+-- the token ahead, h, is of the class and is passed, and its place is answered; or it is refused
+abbrev pub MetAt : Class → Cursor → Cursor → Result ℕ Fault → Ahead → Type 0
+MetAt k b a (Ok q) h = (h.class ≡ k) × (q ≡ h.place) × (a.at ≡ h.end)
+MetAt k b a (Err f) h = (h.class ≡ k → ⊥) × (f ≡ record { refusal = TokenNotPermitted; place = h.place })
+
+abbrev pub Met : Class → Cursor → Cursor → Result ℕ Fault → Type 0
+Met k b a r = (h : Ahead) × Sees b h × (a.text.now ≡ b.text.now) × MetAt k b a r h
 
 -- the name, the number or the sign of comparison that a token is
 abbrev pub name_in : Class → Option WordEntry

@@ -4,7 +4,7 @@ ghost use Rattle.std.specs.Prelude.{◌<◌, ◌≤◌};
 use crate::formula_part::Part;
 
 // A formula whose entries stand from `start` on, in a table with room for 256.
-#[derive(Clone, Copy)]
+#[derive(Clone, Copy, PartialEq, Eq, Debug)]
 pub(crate) struct Body {
     pub(crate) start: usize,
     pub(crate) part: Part,

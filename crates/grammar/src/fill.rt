@@ -17,7 +17,8 @@ impl Body {
 }
 
 impl Table {
-    // Adds an entry and answers its number; in a full table, nothing.
+    // Adds an entry and answers its number. A full table stays as it is, and the answer is 0: no Option, since reading
+    // goes on to find faults, and `passes` tells such a line at its end.
     pub(crate) fn push(&mut self, node: Node) -> u8
         ensures { Pushed self.old self.new node result }
     {

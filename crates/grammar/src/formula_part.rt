@@ -3,17 +3,18 @@
 // with no cursor.
 ghost use Rattle.std.specs.Prelude.{◌≡◌, ◌+◌, ◌<◌, ◌^◌, Decides};
 ghost use Rattle.grammar.specs.Grammar.{Fits, strict};
-ghost use Rattle.grammar.specs.Parsing.{read_to, Takes, level_of, around, Grown, Measured, ComparisonRead, CallRead, NamedRead, UnitRead, WeightsRead, FormulaRead};
+ghost use Rattle.grammar.specs.Parsing.{read_to, level_of, around, Takes, Grown, Measured, WeightsRead};
+ghost use Rattle.grammar.specs.Parsing.{ComparisonRead, CallRead, NamedRead, UnitRead, FormulaRead};
 
 use crate::cursor::Cursor;
-use crate::list::Few;
+use crate::few::Few;
 use crate::table::{Node, Table, Term, Weights, Word};
 use crate::token::Class;
 use formula::Join;
 use refusal::{Fault, Refusal};
 
 // A formula that was read: the entry that is the whole, and how many formulas and joins it has.
-#[derive(Clone, Copy)]
+#[derive(Clone, Copy, PartialEq, Eq, Debug)]
 pub(crate) struct Part {
     pub(crate) body: u8,
     pub(crate) size: usize,
@@ -118,7 +119,8 @@ pub(crate) fn read_formula(
 ) -> Result<Part, Fault>
     ensures grown { Grown table.old table.new }
     ensures measured { Measured cursor.old.at (read_to cursor.new.at result) }
-    ensures value { Takes cursor.old cursor.new result (λ text p r. FormulaRead text depth (level_of level) p table.old table.new r) }
+    ensures value { Takes cursor.old cursor.new result (λ text p r.
+        FormulaRead text depth (level_of level) p table.old table.new r) }
 {
     let left = read_unit(cursor, depth, table)?;
     let ahead = cursor.peek();
@@ -126,10 +128,7 @@ pub(crate) fn read_formula(
         return Ok(left);
     };
     if !fits(level, join) {
-        return Err(Fault {
-            refusal: Refusal::JoinMixes,
-            place: ahead.place,
-        });
+        return Err(Refusal::JoinMixes.at(ahead.place));
     }
     cursor.at = ahead.end;
     let weights = read_weights(cursor)?;
@@ -160,30 +159,24 @@ fn read_unit(cursor: &mut Cursor<'_>, depth: u8, table: &mut Table) -> Result<Pa
             read_named(cursor, word, table)
         }
         Class::Not => {
-            if depth == 0 {
-                return Err(ahead.too_deep());
-            }
+            let allowed = ahead.deeper(depth)?;
             cursor.at = ahead.end;
-            let inner = read_unit(cursor, depth - 1, table)?;
+            let inner = read_unit(cursor, allowed, table)?;
             let body = table.push(Node::Negated(inner.body));
             Ok(inner.within(body))
         }
         Class::Pick => {
-            if depth == 0 {
-                return Err(ahead.too_deep());
-            }
+            let allowed = ahead.deeper(depth)?;
             cursor.at = ahead.end;
             let name = cursor.name()?;
-            let inner = read_unit(cursor, depth - 1, table)?;
+            let inner = read_unit(cursor, allowed, table)?;
             let body = table.push(Node::Picked(name, inner.body));
             Ok(inner.within(body))
         }
         Class::Opening => {
-            if depth == 0 {
-                return Err(ahead.too_deep());
-            }
+            let allowed = ahead.deeper(depth)?;
             cursor.at = ahead.end;
-            let inner = read_formula(cursor, depth - 1, None, table)?;
+            let inner = read_formula(cursor, allowed, None, table)?;
             cursor.expect(Class::Closing)?;
             Ok(inner)
         }

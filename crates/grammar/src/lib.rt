@@ -3,9 +3,9 @@
 
 mod body;
 mod cursor;
+mod few;
 mod fill;
 mod formula_part;
-mod item;
 mod line;
 mod list;
 mod sheet;

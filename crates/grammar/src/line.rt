@@ -4,8 +4,8 @@ ghost use Rattle.grammar.specs.Parsing.{Along, Takes, Passes, HeadRead, Grown, B
 
 use crate::body::Body;
 use crate::cursor::Cursor;
+use crate::few::Few;
 use crate::formula_part::read_formula;
-use crate::list::Few;
 use crate::table::{FieldLine, Table, Word};
 use crate::token::Class;
 use refusal::Fault;
@@ -79,16 +79,9 @@ pub(crate) fn read_rule(
 pub(crate) fn read_mark(cursor: &mut Cursor<'_>, table: &mut Table) -> Result<(), Fault>
     ensures { Along cursor.old cursor.new (λ text. MarkRead text cursor.old.at table.old table.new result) }
 {
-    let ahead = cursor.peek();
-    let Class::Mark = ahead.class else {
-        return Err(ahead.not_permitted());
-    };
-    cursor.at = ahead.end;
+    let first = cursor.expect(Class::Mark)?;
     let body = read_body(cursor, table)?;
-    let last = cursor.peek();
-    let Class::End = last.class else {
-        return Err(last.not_permitted());
-    };
-    table.keep_mark(ahead.place, body);
+    cursor.expect(Class::End)?;
+    table.keep_mark(first, body);
     Ok(())
 }

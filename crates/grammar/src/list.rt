@@ -1,33 +1,76 @@
-// A list of which the first four items are kept, and all are counted.
-// The count is of the items as they are written, of which there may be more than four: no vector of four says that.
-ghost use Rattle.std.specs.Prelude.{◌≡◌, ◌+◌, ◌^◌, ◌<◌, List, [], ◌∷◌, ◌++◌};
-ghost use Rattle.grammar.specs.Parsing.{Holds4};
+// Lists in brackets: the terms of a call, and the parameters of a rule.
+ghost use Rattle.std.specs.Prelude.{ℕ, List, []};
+ghost use Rattle.grammar.specs.Grammar.{Tokens};
+ghost use Rattle.grammar.specs.Parsing.{Takes, Holds4, Listing, Brackets, ItemRead, ItemsRead};
+ghost use Rattle.grammar.specs.Parsing.{term_listing, name_listing, TermAt, NameAt};
+ghost use Rattle.grammar.specs.Listings.{term_brackets, name_brackets};
 
-#[derive(Clone, Copy)]
-pub(crate) struct Few<T> {
-    pub(crate) items: [T; 4],
-    pub(crate) count: usize,
+use crate::cursor::Cursor;
+use crate::few::Few;
+use crate::table::{Term, Word};
+use crate::token::Class;
+use refusal::Fault;
+
+// What a list is of.
+pub(crate) trait Item: Copy {
+    // the states before a list of it, after one, and where one is due; and what one is
+    ghost listing: { Listing };
+
+    ghost is_item: { List ℕ → Tokens → Tokens → Self → Type 0 };
+
+    fn take(cursor: &mut Cursor<'_>) -> Result<Self, Fault>
+        ensures { Takes cursor.old cursor.new result (ItemRead listing is_item) };
+
+    ghost brackets: { Brackets listing };
 }
 
-impl<T: Copy> Few<T> {
-    // A list without items; `blank` stands where none is kept.
-    pub(crate) fn new(blank: T) -> Few<T>
-        ensures { Holds4 T result [] }
-    {
-        Few {
-            items: [blank; 4],
-            count: 0,
-        }
-    }
+impl Item for Term {
+    ghost listing = { term_listing };
 
-    pub(crate) fn keep(&mut self, item: T)
-        requires { self.old.count + 1 < 2 ^ 64 }
-        ensures counts { self.new.count ≡ self.old.count + 1 }
-        ensures holds { (all : List T) → Holds4 T self.old all → Holds4 T self.new (all ++ item ∷ []) }
+    ghost is_item = { TermAt };
+
+    ghost brackets = { term_brackets };
+
+    fn take(cursor: &mut Cursor<'_>) -> Result<Term, Fault> {
+        cursor.term()
+    }
+}
+
+impl Item for Word {
+    ghost listing = { name_listing };
+
+    ghost is_item = { NameAt };
+
+    ghost brackets = { name_brackets };
+
+    fn take(cursor: &mut Cursor<'_>) -> Result<Word, Fault> {
+        cursor.name()
+    }
+}
+
+impl Cursor<'_> {
+    // The items, parted by commas, and the closing bracket, into a list without items.
+    pub(crate) fn list<T: Item>(&mut self, mut list: Few<T>) -> Result<Few<T>, Fault>
+        requires { Holds4 T list [] }
+        ensures { Takes self.old self.new result (ItemsRead T.listing T.is_item) }
     {
-        if self.count < 4 {
-            self.items[self.count] = item;
+        let ahead = self.peek();
+        if let Class::Closing = ahead.class {
+            self.at = ahead.end;
+            return Ok(list);
         }
-        self.count += 1;
+        loop {
+            let item = T::take(self)?;
+            list.keep(item);
+            let ahead = self.peek();
+            match ahead.class {
+                Class::Comma => self.at = ahead.end,
+                Class::Closing => {
+                    self.at = ahead.end;
+                    return Ok(list);
+                }
+                _ => return Err(ahead.not_permitted()),
+            }
+        }
     }
 }

@@ -17,12 +17,8 @@ fn read_first(cursor: &mut Cursor<'_>, table: &mut Table) -> Result<(), Fault>
     ensures entries { table.new.nodes ≡ table.old.nodes }
     ensures value { Passes cursor.old cursor.new result (λ text p r. FirstRead text p table.old table.new r) }
 {
-    let ahead = cursor.peek();
-    let Class::Field = ahead.class else {
-        return Err(ahead.not_permitted());
-    };
-    cursor.at = ahead.end;
-    read_field(cursor, ahead.place, table)
+    let first = cursor.expect(Class::Field)?;
+    read_field(cursor, first, table)
 }
 
 // The field lines that follow.

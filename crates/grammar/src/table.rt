@@ -1,5 +1,6 @@
 // A sheet as it is written, in tables of fixed size: what the grammar fills and the names are looked up in.
-// A spelling is kept as a span of the text, so that a table borrows nothing. What a table stands for is said in specs/Tables.antt.
+// A spelling is kept as a span of the text, so that a table borrows nothing. What a table stands for is said in
+// specs/Tables.antt.
 ghost use Rattle.std.specs.Prelude.{◌≡◌, ℕ, List, [], None};
 ghost use Rattle.grammar.specs.declared.table.Node.TheVariants.{Negated};
 ghost use Rattle.grammar.specs.Tables.{LinesAbove};
@@ -59,7 +60,7 @@ pub struct FieldLine {
 }
 
 // A rule line, with the place of its first word. Its formula is all the entries from `start` to `body`.
-#[derive(PartialEq, Eq, Debug, Default, Drop)]
+#[derive(Clone, PartialEq, Eq, Debug, Default, Drop)]
 pub struct RuleLine {
     pub first: usize,
     pub name: Word,
@@ -77,7 +78,7 @@ pub struct MarkLine {
 }
 
 // The lines of a sheet, up to the first that passes a count limit.
-#[derive(PartialEq, Eq, Debug, Default, Drop)]
+#[derive(Clone, PartialEq, Eq, Debug, Default, Drop)]
 pub struct Table {
     pub fields: ArrayVec<FieldLine, 8>,
     pub rules: ArrayVec<RuleLine, 16>,

@@ -26,6 +26,7 @@ impl Cursor<'_> {
     }
 
     // The term whose name is `word`: with the `+` or `-` and the number that follow it, if they do.
+    // Two arms stay: one for both needs a flag, and a second choice by the flag, and is no shorter.
     pub(crate) fn sum(&mut self, word: Word) -> Result<Term, Fault>
         ensures { Takes self.old self.new result (λ text p r. SumRead text p word r) }
     {

@@ -1,7 +1,8 @@
 // The token ahead, as the grammar sees it.
 ghost use Rattle.std.specs.Prelude.{◌≡◌, ◌≤◌, length};
-ghost use Rattle.refusal.specs.declared.Refusal.TheVariants.{TokenNotPermitted, TooDeep};
-ghost use Rattle.grammar.specs.Parsing.{class_of_word, class_of_sign, name_in, number_in, sign_in, Sees, Taken, Takes, Passes, Asked, NameRead, NumberRead, SignRead};
+ghost use Rattle.refusal.specs.declared.Refusal.TheVariants.{TokenNotPermitted};
+ghost use Rattle.grammar.specs.Parsing.{class_of_word, class_of_sign, name_in, number_in, sign_in};
+ghost use Rattle.grammar.specs.Parsing.{Sees, Deeper, Finds, Takes, Passes, Asked, Met, NameRead, NumberRead, SignRead};
 
 use crate::cursor::Cursor;
 use crate::table::{Number, Word};
@@ -10,7 +11,8 @@ use refusal::{Fault, Refusal};
 use signs::{Sign, Token};
 
 // What a token is to the grammar: seven words are reserved, and every other word is a name.
-#[derive(Clone, Copy, PartialEq, Eq)]
+// Each sign is a case, and no case holds a `Sign`: so a match names a sign by one word.
+#[derive(Clone, Copy, PartialEq, Eq, Debug)]
 pub(crate) enum Class {
     End,
     Name(Word),
@@ -32,7 +34,7 @@ pub(crate) enum Class {
 }
 
 // The token ahead: its class, its place and the place after it. At the end of the text both are its length.
-#[derive(Clone, Copy)]
+#[derive(Clone, Copy, PartialEq, Eq, Debug)]
 pub(crate) struct Ahead {
     pub(crate) class: Class,
     pub(crate) place: usize,
@@ -77,20 +79,14 @@ impl Ahead {
     pub(crate) fn not_permitted(self) -> Fault
         ensures { result ≡ record { refusal = TokenNotPermitted; place = self.place } }
     {
-        Fault {
-            refusal: Refusal::TokenNotPermitted,
-            place: self.place,
-        }
+        Refusal::TokenNotPermitted.at(self.place)
     }
 
-    // The fault that this token opens a level too many.
-    pub(crate) fn too_deep(self) -> Fault
-        ensures { result ≡ record { refusal = TooDeep; place = self.place } }
+    // The levels that are allowed within the one that this token opens, of `depth` with it.
+    pub(crate) fn deeper(self, depth: u8) -> Result<u8, Fault>
+        ensures { Deeper self depth result }
     {
-        Fault {
-            refusal: Refusal::TooDeep,
-            place: self.place,
-        }
+        depth.checked_sub(1).ok_or(Refusal::TooDeep.at(self.place))
     }
 }
 
@@ -157,45 +153,48 @@ impl Cursor<'_> {
         }
     }
 
-    // What was found in the token ahead, which is passed; or the fault that the token is not permitted.
-    fn take<T: Drop>(&mut self, ahead: Ahead, found: Option<T>) -> Result<T, Fault>
-        requires { ahead.end ≤ length self.old.text.now }
-        ensures { Taken self.old self.new ahead found result }
+    // What is found in the token ahead, which is passed; or the fault that the token is not permitted.
+    fn take<T: Drop, F: FnOnce(Ahead) -> Option<T>>(&mut self, find: F) -> Result<T, Fault>
+        requires { F.IsAlwaysCallable find }
+        ensures { Finds (F.post find) self.old self.new result }
     {
-        let value = found.ok_or(ahead.not_permitted())?;
+        let ahead = self.peek();
+        let value = find(ahead).ok_or(ahead.not_permitted())?;
         self.at = ahead.end;
         Ok(value)
     }
 
-    // Passes a sign that the grammar asks for by itself.
-    pub(crate) fn expect(&mut self, class: Class) -> Result<(), Fault>
-        ensures { Passes self.old self.new result (Asked class) }
+    // Passes a token that the grammar asks for by itself, and answers its place.
+    pub(crate) fn expect(&mut self, class: Class) -> Result<usize, Fault>
+        ensures asked { Passes self.old self.new result (Asked class) }
+        ensures met { Met class self.old self.new result }
     {
         let ahead = self.peek();
-        self.take(ahead, (ahead.class == class).then_some(()))
+        if ahead.class != class {
+            return Err(ahead.not_permitted());
+        }
+        self.at = ahead.end;
+        Ok(ahead.place)
     }
 
     // The name that stands there.
     pub(crate) fn name(&mut self) -> Result<Word, Fault>
         ensures { Takes self.old self.new result NameRead }
     {
-        let ahead = self.peek();
-        self.take(ahead, ahead.name())
+        self.take(Ahead::name)
     }
 
     // The number that stands there.
     pub(crate) fn number(&mut self) -> Result<Number, Fault>
         ensures { Takes self.old self.new result NumberRead }
     {
-        let ahead = self.peek();
-        self.take(ahead, ahead.number())
+        self.take(Ahead::number)
     }
 
     // The sign of comparison that stands there.
     pub(crate) fn sign(&mut self) -> Result<Comparison, Fault>
         ensures { Takes self.old self.new result SignRead }
     {
-        let ahead = self.peek();
-        self.take(ahead, ahead.sign())
+        self.take(Ahead::sign)
     }
 }

@@ -1,4 +1,5 @@
-// A buffer of the caller's, and how far it is written, from its front on.
+// A buffer of the caller's, and how far it is written, from its front on. Each line ends as the length written, as with
+// `Write::write`, beside the caller's own buffer.
 ghost use Rattle.std.specs.Prelude.{◌≡◌, ◌+◌, ◌≤◌, map, length, replicate};
 ghost use Rattle.lines.specs.Pieces.{shown};
 ghost use Rattle.lines.specs.Putting.{Put};

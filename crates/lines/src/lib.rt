@@ -1,5 +1,7 @@
 // The bytes of each line that a program prints, made in a buffer of the caller's. Each line has a function of its
-// own, with its text as the contract: one that took the words as well would be `write` again.
+// own, with its text as the contract: one that took the words as well would be `write` again. It is no `Display`: these
+// are proved bytes, whole or not at all, in a buffer of the caller's. A function answers how many it wrote, as
+// `Write::write` does.
 #![tactic(auto)]
 
 ghost use Rattle.std.specs.Prelude.{◌≡◌, take, IfOk};

@@ -5,7 +5,8 @@ ghost use Rattle.lines.specs.Putting.{Put};
 
 use crate::cursor::{Cursor, width};
 
-// What they leave of the room, or none where the room is too small for them.
+// What they leave of the room, or none where the room is too small for them. By a `for` with `?`: `try_fold` would put
+// its one line into a closure, no plainer.
 pub(crate) fn room_after(numbers: &[u16], room: usize) -> Option<usize>
     ensures { SomeIff result (length (parted numbers.now) ≤ room) (room - length (parted numbers.now)) }
 {

@@ -8,18 +8,14 @@ use std::alloc::Global;
 use std::io;
 use std::io::{BufWriter, Write};
 use store::open::OpenStore;
-use streams::put;
+use streams::{TEXT_ROOM, put};
+use walk::MOST_ENTRIES;
 use walk::answer::Answer;
-
-// One byte more than a text may have: enough to see that it is too long.
-const ENOUGH: usize = 32769;
 
 // The fuel of a listing.
 const FUEL: u8 = 255;
 
-// How long the lists are that it needs: of trace entries, of frames and of fields.
-const ENTRIES: usize = 4104;
-
+// How long the lists are that it needs beside those of `MOST_ENTRIES`: of frames and of fields.
 const FRAMES: usize = 256;
 
 const FIELDS: usize = 8;
@@ -29,7 +25,7 @@ const LINE: usize = 128;
 
 fn main(rt: HostRuntime) -> io::Result<()> {
     // Each program reads its text by these lines: a function of a library for them would allocate.
-    let mut text = vec![in rt.alloc(); 0u8; ENOUGH]?;
+    let mut text = vec![in rt.alloc(); 0u8; TEXT_ROOM]?;
     let size = streams::fill(&mut rt.stdin(), &mut text)?;
     text.truncate(size);
     let mut out = BufWriter::new(rt.alloc(), rt.stdout())?;
@@ -47,9 +43,9 @@ fn main(rt: HostRuntime) -> io::Result<()> {
 // Walks the sheet over the open store: each mark's line as it comes, and the closing line.
 fn list<W: Write>(heap: Global, sheet: &Sheet, out: &mut W) -> io::Result<()> {
     let mut store = OpenStore::new(sheet);
-    let mut picks = vec![in heap; 0u16; ENTRIES]?;
-    let mut widths = vec![in heap; 0u16; ENTRIES]?;
-    let mut goals = vec![in heap; Goal::NONE; ENTRIES]?;
+    let mut picks = vec![in heap; 0u16; MOST_ENTRIES]?;
+    let mut widths = vec![in heap; 0u16; MOST_ENTRIES]?;
+    let mut goals = vec![in heap; Goal::NONE; MOST_ENTRIES]?;
     let mut frames = vec![in heap; Frame::NONE; FRAMES]?;
     let mut mark = vec![in heap; 0u16; FIELDS]?;
     let mut line = vec![in heap; 0u8; LINE]?;
@@ -61,10 +57,10 @@ fn list<W: Write>(heap: Global, sheet: &Sheet, out: &mut W) -> io::Result<()> {
         mark: &mut mark,
     };
     let mut walk = walk::start(FUEL);
-    // Counted, since what a walk answers does not tell the check that it ends.
+    // Counted, since what a walk answers does not tell the proof that it ends.
     for _ in 0..u64::MAX {
         match walk.next(sheet, &mut store, &mut lists) {
-            Ok(Answer::Mark) => put_mark(sheet.field_count, lists.mark, &mut line, out)?,
+            Ok(Answer::Mark) => put_mark(sheet.field_count(), lists.mark, &mut line, out)?,
             Ok(Answer::Finished) => break,
             Ok(Answer::DeadEnd | Answer::Spent) => {}
             Err(_) => return Err(io::Error::other("the walk is refused")),

@@ -1,7 +1,7 @@
 -- The parts that are made of a table without fault keep the rules of a sheet, and are what the sheet comes to.
 use Rattle.std.proofs.Common.{◌≡◌, ℕ, zero, suc, ◌+◌, ◌<◌, ◌≤◌, true, List, [], ◌∷◌, ◌++◌, map, length, get_or, take, Some, None, Ok, sym, refl, ap, ◌∙◌, subst, ⊎_elim, append_assoc, arith}
 use Rattle.std.proofs.str.Laws.{order}
-use Rattle.std.proofs.lemmas.List.{length-map, length-take-le}
+use Rattle.std.proofs.lemmas.List.{length-map}
 use Rattle.formula.specs.Trees as tree
 use Rattle.grammar.specs.declared.table.Table.{Table}
 use Rattle.grammar.specs.Grammar.{any, formula}
@@ -15,11 +15,12 @@ use Rattle.sheet.specs.Table.{formula_at, formula_within}
 use Rattle.sheet.specs.Keeping as keeping
 use Rattle.sheet.specs.Keeping.{PartsKept, Within, entry_kept}
 use Rattle.sheet.specs.Sheets.{range_of, rule_of, tree_of_parts}
+use Rattle.sheet.proofs.Lines.{rule_in_lines, mark_in_lines}
 use Rattle.sheet.proofs.Holding.{held_within}
 use Rattle.names.specs.Lists.{Stands, here, there, In, Each, end, item}
 use Rattle.names.specs.Names.{Calls, the_rule, FormulaIs, FieldIs, field_is, RulesAre, no_rules, one_rule, Resolves, resolved}
 use Rattle.names.specs.Faults.{weight, uses, zero_weight, wrong_range, rule_formula, mark_formula, Faulty, in_field, in_rule, in_mark, sizes, Named}
-use Rattle.names.specs.Looking.{no_rule_line, IsHead, AllNumbered, LinesSettled, RangesOf, LinesOf, field_at, rule_at, rule_params, rule_body}
+use Rattle.names.specs.Looking.{no_rule_line, IsHead, AllNumbered, LinesSettled, RangesOf, LinesOf, MarkOf, field_at, rule_at, rule_params, rule_body}
 use Rattle.names.proofs.Places.{stands_length, stands_upto, stands_once}
 use Rattle.names.proofs.Lookups.{stands_at}
 use Rattle.names.proofs.Numbering.{stands_map, map_stands}
@@ -28,12 +29,11 @@ use Rattle.names.proofs.Parts.{entries_size, size_some}
 use Rattle.names.proofs.Trees.{same_size, same_joins, same_nested, tree_at}
 use Rattle.names.proofs.Known.{Weighted, kept_at}
 
--- what stands among the first items is read there
-stands_is : {A : Type 0} (xs : List A) (n : ℕ) {i : ℕ} {x : A} (d : A) → Stands A (take n xs) i x → get_or xs i d ≡ x
-stands_is xs zero d s = elim s [ ]
-stands_is [] (suc n) d s = elim s [ ]
-stands_is (x ∷ xs) (suc n) d here = refl
-stands_is (x ∷ xs) (suc n) d (there s) = stands_is xs n d s
+-- what stands in a list is read there
+stands_in : {A : Type 0} (xs : List A) {i : ℕ} {x : A} (d : A) → Stands A xs i x → get_or xs i d ≡ x
+stands_in [] d s = elim s [ ]
+stands_in (x ∷ xs) d here = refl
+stands_in (x ∷ xs) d (there s) = stands_in xs d s
 
 length_upto : {A : Type 0} (n : ℕ) (xs : List A) (x : A) → length (take n xs ++ (x ∷ [])) ≤ n + 1
 length_upto zero xs x = omega arith
@@ -115,8 +115,8 @@ joins_few s ps f fits = ⊎_elim (λ h. absurd (fits (many_joins h))) (λ h. h) 
 sizes_few : (s : ℕ) (ps : List Word) (f : Formula) → (Over s ps f → ⊥) → s + size f ≤ 256
 sizes_few s ps f fits = ⊎_elim (λ h. absurd (fits (many_formulas h))) (λ h. h) (order 256 (s + size f))
 
-module _ (text : List ℕ) (t : Table) (nodes : List Node) (ranges : List Range) (lines : List Line)
-    (ranges_are : RangesOf t.fields.items ranges) (lines_are : LinesOf t.rules.items t.mark lines)
+module _ (text : List ℕ) (t : Table) (nodes : List Node) (ranges : List Range) (made : List Line) (made_mark : Line)
+    (ranges_are : RangesOf t.fields.items ranges) (lines_are : LinesOf t.rules.items made) (mark_is : MarkOf t.mark made_mark)
     (fs : List Field) (rs : List Rule) (p : ℕ) (f : Formula) (e : ℕ)
     (above : LinesAbove text t fs rs e) (starts : t.mark.start ≡ e)
     (d : Entries text t.nodes.items e t.mark.body f) (fits : Over e [] f → ⊥)
@@ -126,7 +126,10 @@ module _ (text : List ℕ) (t : Table) (nodes : List Node) (ranges : List Range)
   abbrev Fs : List Field
   Fs = fields_of text t
 
-  fields_long : length Fs ≡ (length t.fields.items)
+  abbrev lines : List Line
+  lines = table.lines_of made made_mark
+
+  fields_long : length Fs ≡ length t.fields.items
   fields_long = length-map t.fields.items (field_of text)
 
   field_count : length t.fields.items ≡ length fs
@@ -142,11 +145,17 @@ module _ (text : List ℕ) (t : Table) (nodes : List Node) (ranges : List Range)
   laid : (i : ℕ) → i < length rs
       → ((table.line_at lines i).start ≡ (rule_at t.rules.items i).start) × ((table.line_at lines i).body ≡ (rule_at t.rules.items i).body)
       × ((table.line_at lines i).params ≡ length (rule_at t.rules.items i).params.items)
-  laid i lt = lines_are.1 i (omega (arith, rule_count))
+  laid i lt =
+      subst (λ l. (l.start ≡ (rule_at t.rules.items i).start) × (l.body ≡ (rule_at t.rules.items i).body)
+      × (l.params ≡ length (rule_at t.rules.items i).params.items))
+      (sym (rule_in_lines made made_mark i (omega (arith, lines_are.0, rule_count)))) (lines_are.1 i (omega (arith, rule_count)))
 
   mark_laid : ((table.line_at lines (length t.rules.items)).start ≡ t.mark.start) × ((table.line_at lines (length t.rules.items)).body ≡ t.mark.body)
       × ((table.line_at lines (length t.rules.items)).params ≡ 0)
-  mark_laid = lines_are.2
+  mark_laid =
+      let last : table.line_at lines (length t.rules.items) ≡ made_mark =
+      subst (λ n. table.line_at lines n ≡ made_mark) lines_are.0 (mark_in_lines made made_mark) in
+      subst (MarkOf t.mark) (sym last) mark_is
 
   params_at : (i : ℕ) (x : Rule) → Stands Rule rs i x → ((table.line_at lines i).params ≡ length (rule_params x)) × (length (rule_params x) ≤ 4)
   params_at i x st =
@@ -162,7 +171,7 @@ module _ (text : List ℕ) (t : Table) (nodes : List Node) (ranges : List Range)
   -- which rules a line may call
   calls_rule :
       (i : ℕ) (x : Rule) → Stands Rule rs i x → (w : Word) (k : ℕ) (qs : List Word) → Calls (take i rs ++ (x ∷ [])) w k qs
-      → (k < (length t.rules.items)) × (k ≤ i) × ((table.line_at lines k).params ≡ length qs) × (length qs ≤ 4)
+      → (k < length t.rules.items) × (k ≤ i) × ((table.line_at lines k).params ≡ length qs) × (length qs ≤ 4)
   calls_rule i x st w k qs (the_rule s eq) =
       let up = stands_upto st s in
       let a = stands_length up in
@@ -173,7 +182,7 @@ module _ (text : List ℕ) (t : Table) (nodes : List Node) (ranges : List Range)
 
   calls_mark :
       (w : Word) (k : ℕ) (qs : List Word) → Calls rs w k qs
-      → (k < (length t.rules.items)) × (k ≤ (length t.rules.items)) × ((table.line_at lines k).params ≡ length qs) × (length qs ≤ 4)
+      → (k < length t.rules.items) × (k ≤ length t.rules.items) × ((table.line_at lines k).params ≡ length qs) × (length qs ≤ 4)
   calls_mark w k qs (the_rule s eq) =
       let a = stands_length s in
       let h = params_at k _ s in
@@ -232,7 +241,7 @@ module _ (text : List ℕ) (t : Table) (nodes : List Node) (ranges : List Range)
       (rs' : List Rule) × (ps : List Word) × (g : Formula)
       × FormulaIs Fs rs' ps g (formula_at nodes (table.line_at lines l).body) × (joins g ≤ 16) × (nested g (formula any) ≤ 16)
 
-  line_tree : (l : ℕ) → l ≤ (length t.rules.items) → LineTree l
+  line_tree : (l : ℕ) → l ≤ length t.rules.items → LineTree l
   line_tree l le =
       ⊎_elim
       (λ lt. let less : l < length rs = omega (arith, rule_count) in
@@ -272,13 +281,13 @@ module _ (text : List ℕ) (t : Table) (nodes : List Node) (ranges : List Range)
       i (omega arith) (omega arith)
 
   -- the ranges
-  field_of_line : (i : ℕ) → i < (length t.fields.items) → Stands Field fs i (field_of text (field_at t.fields.items i))
+  field_of_line : (i : ℕ) → i < length t.fields.items → Stands Field fs i (field_of text (field_at t.fields.items i))
   field_of_line i lt =
       subst (λ z. Stands Field z i (field_of text (field_at t.fields.items i))) above.fields_held
       (stands_map (field_of text) (stands_at t.fields.items i _ lt))
 
   range_kept :
-      (i : ℕ) → i < (length t.fields.items)
+      (i : ℕ) → i < length t.fields.items
       → ((table.range_at ranges i).low ≤ (table.range_at ranges i).high) × ((table.range_at ranges i).high ≤ 1023)
   unfolding SmallField
   range_kept i lt =
@@ -291,30 +300,30 @@ module _ (text : List ℕ) (t : Table) (nodes : List Node) (ranges : List Range)
       (omega arith, omega (arith, small.1))
 
   -- how the lines of the sheet are read off the list
-  lines_fit : length (take (length t.rules.items) lines) ≡ length rs
-  lines_fit = length-take-le (length t.rules.items) lines (omega (arith, lines_are.0, rule_count, above.few_rules)) ∙ rule_count
+  lines_fit : length made ≡ length rs
+  lines_fit = lines_are.0 ∙ rule_count
 
-  line_is : {i : ℕ} {l : Line} → Stands Line (take (length t.rules.items) lines) i l → table.line_at lines i ≡ l
-  line_is st = stands_is lines (length t.rules.items) _ st
+  line_is : {i : ℕ} {l : Line} → Stands Line made i l → table.line_at lines i ≡ l
+  line_is st = rule_in_lines made made_mark _ (stands_length st) ∙ stands_in made _ st
 
-  few_in_all : keeping.FewFormulas (length t.rules.items) lines nodes
+  few_in_all : keeping.FewFormulas made made_mark nodes
   few_in_all =
-      let sum : keeping.sizes nodes (take (length t.rules.items) lines) ≡ sizes rs =
-      sizes_by_place nodes (take (length t.rules.items) lines) rs lines_fit
+      let sum : keeping.sizes nodes made ≡ sizes rs =
+      sizes_by_place nodes made rs lines_fit
       (λ i l x s u. ap (λ z. keeping.size (formula_at nodes z)) (sym (ap (λ z. z.body) (line_is s)) ∙ (laid i (stands_length u)).1) ∙ same_size (rule_tree i x u)) in
-      let last : keeping.size (formula_at nodes (table.line_at lines (length t.rules.items)).body) ≡ size f =
-      ap (λ z. keeping.size (formula_at nodes z)) mark_laid.1 ∙ same_size mark_tree in
+      let last : keeping.size (formula_at nodes made_mark.body) ≡ size f =
+      ap (λ z. keeping.size (formula_at nodes z)) mark_is.1 ∙ same_size mark_tree in
       let a = rules_end text t.nodes.items above.rules_held in
       let b = sizes_few e [] f fits in
       omega arith
 
   -- what the sheet comes to
   rule_at_place :
-      (i : ℕ) (x : Rule) (y : tree.Rule) → Stands Rule rs i x → Stands tree.Rule (map (rule_of nodes) (take (length t.rules.items) lines)) i y
+      (i : ℕ) (x : Rule) (y : tree.Rule) → Stands Rule rs i x → Stands tree.Rule (map (rule_of nodes) made) i y
       → RuleIs Fs (take i rs) x y
   unfolding RuleIs
   rule_at_place i x y u s =
-      let m = map_stands (rule_of nodes) (take (length t.rules.items) lines) s in
+      let m = map_stands (rule_of nodes) made s in
       let lt = stands_length u in
       let body : m.0.body ≡ (rule_at t.rules.items i).body = sym (ap (λ z. z.body) (line_is m.1)) ∙ (laid i lt).1 in
       let params : m.0.params ≡ length (rule_params x) = sym (ap (λ z. z.params) (line_is m.1)) ∙ (params_at i x u).0 in (
@@ -324,49 +333,50 @@ module _ (text : List ℕ) (t : Table) (nodes : List Node) (ranges : List Range)
       )
 
   field_at_place :
-      (i : ℕ) (x : Field) (y : tree.Range) → Stands Field fs i x → Stands tree.Range (map range_of (take (length t.fields.items) ranges)) i y → FieldIs x y
+      (i : ℕ) (x : Field) (y : tree.Range) → Stands Field fs i x → Stands tree.Range (map range_of ranges) i y → FieldIs x y
   field_at_place i x y u s =
-      let m = map_stands range_of (take (length t.fields.items) ranges) s in
-      let lt : i < (length t.fields.items) = let h = stands_length u in omega (arith, field_count) in
-      let is : table.range_at ranges i ≡ m.0 = stands_is ranges (length t.fields.items) _ m.1 in
+      let m = map_stands range_of ranges s in
+      let lt : i < length t.fields.items = let h = stands_length u in omega (arith, field_count) in
+      let is : table.range_at ranges i ≡ m.0 = stands_in ranges _ m.1 in
       let r = ranges_are.1 i lt in
       let l = field_at t.fields.items i in
       let value : tree.range l.low.value l.high.value ≡ y =
       let a = r.0 in let b = r.1 in let c = m.2 in let d = ap (λ z. z.low) is in let g = ap (λ z. z.high) is in cc in
       subst (λ z. FieldIs z y) (stands_once (field_of_line i lt) u) (subst (FieldIs (field_of text l)) value field_is)
 
-  pub parts_resolve : Resolves (sheet fs rs (mark_line p f)) (tree_of_parts ranges (length t.fields.items) lines (length t.rules.items) nodes)
+  pub parts_resolve : Resolves (sheet fs rs (mark_line p f)) (tree_of_parts ranges made made_mark nodes)
   parts_resolve =
-      let fields_fit : length fs ≡ length (map range_of (take (length t.fields.items) ranges)) =
-      sym (length-map (take (length t.fields.items) ranges) range_of
-      ∙ length-take-le (length t.fields.items) ranges (omega (arith, ranges_are.0, field_count, above.few_fields)) ∙ field_count) in
-      let rules_fit' : length rs ≡ length (map (rule_of nodes) (take (length t.rules.items) lines)) =
-      sym (length-map (take (length t.rules.items) lines) (rule_of nodes) ∙ lines_fit) in
+      let fields_fit : length fs ≡ length (map range_of ranges) =
+      sym (length-map ranges range_of ∙ ranges_are.0 ∙ field_count) in
+      let rules_fit' : length rs ≡ length (map (rule_of nodes) made) =
+      sym (length-map made (rule_of nodes) ∙ lines_fit) in
       let eF = above.fields_held in
       resolved
-      (each_by_place FieldIs fs (map range_of (take (length t.fields.items) ranges)) fields_fit field_at_place)
-      (subst (λ z. RulesAre z [] rs (map (rule_of nodes) (take (length t.rules.items) lines))) eF
-      (rules_by_place Fs [] rs (map (rule_of nodes) (take (length t.rules.items) lines)) rules_fit' rule_at_place))
-      (subst (λ z. FormulaIs z rs [] f (formula_at nodes (table.line_at lines (length t.rules.items)).body)) eF
-      (subst (λ b. FormulaIs Fs rs [] f (formula_at nodes b)) (sym mark_laid.1) mark_tree))
+      (each_by_place FieldIs fs (map range_of ranges) fields_fit field_at_place)
+      (subst (λ z. RulesAre z [] rs (map (rule_of nodes) made)) eF
+      (rules_by_place Fs [] rs (map (rule_of nodes) made) rules_fit' rule_at_place))
+      (subst (λ z. FormulaIs z rs [] f (formula_at nodes made_mark.body)) eF
+      (subst (λ b. FormulaIs Fs rs [] f (formula_at nodes b)) (sym mark_is.1) mark_tree))
 
-  pub parts_kept : PartsKept ranges (length t.fields.items) lines (length t.rules.items) nodes
+  pub parts_kept : PartsKept ranges made made_mark nodes
   parts_kept =
       record {
-        some_fields = let h = some_length fs well.0 in (omega (arith, field_count), omega (arith, field_count, above.few_fields));
-        few_rules = omega (arith, rule_count, above.few_rules);
-        ranges_kept = range_kept;
-        lines_kept = λ l le. line_kept l le;
-        mark_plain = mark_laid.2;
-        entries_kept = λ l i w. entries l i w;
-        few_joins = λ l le. let h = line_tree l le in let s = same_joins h.3 in omega (arith, h.4);
-        shallow = λ l le. let h = line_tree l le in let s = same_nested (formula any) keeping.alone (λ j. refl) h.3 in omega (arith, h.5);
+        some_fields =
+            let h = some_length fs well.0 in
+            (omega (arith, ranges_are.0, field_count), omega (arith, ranges_are.0, field_count, above.few_fields));
+        few_rules = omega (arith, lines_are.0, rule_count, above.few_rules);
+        ranges_kept = λ i lt. range_kept i (omega (arith, ranges_are.0));
+        lines_kept = λ l le. line_kept l (omega (arith, lines_are.0));
+        mark_plain = mark_is.2;
+        entries_kept = subst (λ n. keeping.EntriesKept (length ranges) n lines nodes) (sym lines_are.0) entries;
+        few_joins = λ l le. let h = line_tree l (omega (arith, lines_are.0)) in let s = same_joins h.3 in omega (arith, h.4);
+        shallow = λ l le. let h = line_tree l (omega (arith, lines_are.0)) in let s = same_nested (formula any) keeping.alone (λ j. refl) h.3 in omega (arith, h.5);
         few_formulas = few_in_all;
       }
     where
-      entries : (l i : ℕ) → Within (length t.rules.items) lines l i → entry_kept (length t.fields.items) (length t.rules.items) lines l i (table.node_at nodes i) ≡ true
+      entries : (l i : ℕ) → Within (length t.rules.items) lines l i → entry_kept (length ranges) (length t.rules.items) lines l i (table.node_at nodes i) ≡ true
       entries l i w =
-          subst (λ n. entry_kept n (length t.rules.items) lines l i (table.node_at nodes i) ≡ true) fields_long
+          subst (λ n. entry_kept n (length t.rules.items) lines l i (table.node_at nodes i) ≡ true) (fields_long ∙ sym ranges_are.0)
           (⊎_elim
           (λ lt. rule_entries l (omega (arith, rule_count)) i w.1 w.2)
           (λ ge. let same : length t.rules.items ≡ l = let a = w.0 in omega arith in
@@ -374,7 +384,7 @@ module _ (text : List ℕ) (t : Table) (nodes : List Node) (ranges : List Range)
           (mark_entries i) w.1 w.2)
           (order l (length t.rules.items)))
 
-      line_kept : (l : ℕ) → l ≤ (length t.rules.items)
+      line_kept : (l : ℕ) → l ≤ length t.rules.items
           → ((table.line_at lines l).params ≤ 4) × ((table.line_at lines l).start ≤ (table.line_at lines l).body) × ((table.line_at lines l).body < 256)
       line_kept l le =
           ⊎_elim
@@ -396,36 +406,36 @@ module _ (text : List ℕ) (t : Table) (nodes : List Node) (ranges : List Range)
           (order l (length t.rules.items))
 
 -- so for whatever sheet the table holds
-module _ (text : List ℕ) (t : Table) (nodes : List Node) (ranges : List Range) (lines : List Line)
-    (ranges_are : RangesOf t.fields.items ranges) (lines_are : LinesOf t.rules.items t.mark lines) where
+module _ (text : List ℕ) (t : Table) (nodes : List Node) (ranges : List Range) (made : List Line) (made_mark : Line)
+    (ranges_are : RangesOf t.fields.items ranges) (lines_are : LinesOf t.rules.items made) (mark_is : MarkOf t.mark made_mark) where
   not_over : {A : Type 0} {q : ℕ} → t.over ≡ None → t.over ≡ Some q → A
   not_over a b = let z : ◌≡◌ {A = ℕ} 0 1 = cc in absurd (omega arith)
 
   pub made_kept :
       (s : Sheet) (u : Unit {0}) → Holds text t s → WellRead s → LinesSettled text t nodes (Ok u)
-      → PartsKept ranges (length t.fields.items) lines (length t.rules.items) nodes
+      → PartsKept ranges made made_mark nodes
   made_kept s u holds well settled = let h = settled s holds well in go s holds well h.0 h.1
     where
       go :
           (s : Sheet) → Holds text t s → WellRead s → ((n q : ℕ) → Faulty s n q → ⊥) → (t.over ≡ None) × AllNumbered text t nodes s
-          → PartsKept ranges (length t.fields.items) lines (length t.rules.items) nodes
+          → PartsKept ranges made made_mark nodes
       go _ (whole {fs = fs} {rs = rs} {p = p} {e = e} {f = f} o above first starts d fits) well none h =
-          parts_kept text t nodes ranges lines ranges_are lines_are fs rs p f e above starts d fits well none h.1
+          parts_kept text t nodes ranges made made_mark ranges_are lines_are mark_is fs rs p f e above starts d fits well none h.1
       go _ (over_field o above eight w low high below ea) well none h = not_over h.0 o
       go _ (over_rule o above over w below ee) well none h = not_over h.0 o
       go _ (over_mark o above over) well none h = not_over h.0 o
 
   pub made_named :
       (s : Sheet) (u : Unit {0}) → Holds text t s → WellRead s → LinesSettled text t nodes (Ok u)
-      → Named s (tree_of_parts ranges (length t.fields.items) lines (length t.rules.items) nodes)
+      → Named s (tree_of_parts ranges made made_mark nodes)
   made_named s u holds well settled = let h = settled s holds well in go s holds well h.0 h.1
     where
       go :
           (s : Sheet) → Holds text t s → WellRead s → ((n q : ℕ) → Faulty s n q → ⊥) → (t.over ≡ None) × AllNumbered text t nodes s
-          → Named s (tree_of_parts ranges (length t.fields.items) lines (length t.rules.items) nodes)
+          → Named s (tree_of_parts ranges made made_mark nodes)
       go _ (whole {fs = fs} {rs = rs} {p = p} {e = e} {f = f} o above first starts d fits) well none h =
           record {
-            resolves = parts_resolve text t nodes ranges lines ranges_are lines_are fs rs p f e above starts d fits well none h.1;
+            resolves = parts_resolve text t nodes ranges made made_mark ranges_are lines_are mark_is fs rs p f e above starts d fits well none h.1;
             faultless = none;
           }
       go _ (over_field o above eight w low high below ea) well none h = not_over h.0 o

@@ -377,19 +377,21 @@ LinesSettled text t nodes r =
 
 -- The parts of a sheet
 
--- the ranges of the field lines, of which there are at most 8
+-- the ranges of the field lines
 abbrev pub RangesOf : List FieldLine → List Range → Type 0
 RangesOf fields ranges =
-    (length ranges ≡ 8)
+    (length ranges ≡ length fields)
     × ((i : ℕ) → i < length fields
     → ((range_at ranges i).low ≡ (field_at fields i).low.value) × ((range_at ranges i).high ≡ (field_at fields i).high.value))
 
--- the lines of the rule lines, of which there are at most 16, and then the mark line
-abbrev pub LinesOf : List RuleLine → MarkLine → List Line → Type 0
-LinesOf rules mark lines =
-    (length lines ≡ 17)
+-- the lines of the rule lines
+abbrev pub LinesOf : List RuleLine → List Line → Type 0
+LinesOf rules lines =
+    (length lines ≡ length rules)
     × ((l : ℕ) → l < length rules
     → ((line_at lines l).start ≡ (rule_at rules l).start) × ((line_at lines l).body ≡ (rule_at rules l).body)
     × ((line_at lines l).params ≡ length (rule_at rules l).params.items))
-    × (((line_at lines (length rules)).start ≡ mark.start) × ((line_at lines (length rules)).body ≡ mark.body)
-    × ((line_at lines (length rules)).params ≡ 0))
+
+-- the line of the mark line
+abbrev pub MarkOf : MarkLine → Line → Type 0
+MarkOf mark line = (line.start ≡ mark.start) × (line.body ≡ mark.body) × (line.params ≡ 0)

@@ -1,47 +1,50 @@
-// The ranges and lines of a sheet, from its tables. These are no `From`: its types are of other crates. They write by
-// index, since after a zip of `iter_mut` the check knows no element.
+// The ranges and lines of a sheet, from its tables. These are no `From`: its types are of other crates. They push and do
+// not collect, which takes an allocator.
 ghost use Rattle.std.specs.Prelude.{◌≤◌, length};
-ghost use Rattle.names.specs.Looking.{RangesOf, LinesOf};
+ghost use Rattle.names.specs.Looking.{RangesOf, LinesOf, MarkOf};
 
+use arrayvec::ArrayVec;
 use grammar::table::{FieldLine, MarkLine, RuleLine};
 use sheet::node::{Line, Range};
 
 // The ranges of the field lines.
-pub(crate) fn ranges_of(fields: &[FieldLine]) -> [Range; 8]
+pub(crate) fn ranges_of(fields: &[FieldLine]) -> ArrayVec<Range, 8>
     requires { length fields.now ≤ 8 }
-    ensures { RangesOf fields.now result }
+    ensures { RangesOf fields.now result.items }
 {
-    let mut ranges = [Range { low: 0, high: 0 }; 8];
-    for (i, field) in fields.iter().enumerate() {
-        ranges[i] = Range {
+    let mut ranges = ArrayVec::new();
+    for field in fields {
+        ranges.push(Range {
             low: field.low.value,
             high: field.high.value,
-        };
+        });
     }
     ranges
 }
 
-// The lines of the rule lines, and then the mark line.
-pub(crate) fn lines_of(rules: &[RuleLine], mark: MarkLine) -> [Line; 17]
+// The lines of the rule lines.
+pub(crate) fn rules_of(rules: &[RuleLine]) -> ArrayVec<Line, 16>
     requires { length rules.now ≤ 16 }
-    ensures { LinesOf rules.now mark result }
+    ensures { LinesOf rules.now result.items }
 {
-    let mut lines = [Line {
-        params: 0,
-        start: 0,
-        body: 0,
-    }; 17];
-    for (l, rule) in rules.iter().enumerate() {
-        lines[l] = Line {
+    let mut lines = ArrayVec::new();
+    for rule in rules {
+        lines.push(Line {
             params: rule.params.len() as u8,
             start: rule.start,
             body: rule.body,
-        };
+        });
     }
-    lines[rules.len()] = Line {
+    lines
+}
+
+// The line of the mark line, which has no parameters.
+pub(crate) fn mark_of(mark: MarkLine) -> Line
+    ensures { MarkOf mark result }
+{
+    Line {
         params: 0,
         start: mark.start,
         body: mark.body,
-    };
-    lines
+    }
 }

@@ -3,7 +3,7 @@ ghost use Rattle.grammar.specs.Syntax.{Sheet as Written};
 ghost use Rattle.grammar.specs.Tables.{Holds, WellRead};
 ghost use Rattle.names.specs.Resolving.{Readable, Resolved};
 
-use crate::layout::{lines_of, ranges_of};
+use crate::layout::{mark_of, ranges_of, rules_of};
 use crate::lines::number_lines;
 use formula::Comparison;
 use grammar::table::Table;
@@ -21,9 +21,8 @@ pub(crate) fn resolve(text: &[u8], table: &Table, sheet: &mut Sheet) -> Result<(
     number_lines(text, table, &mut nodes)?;
     *sheet = Sheet {
         ranges: ranges_of(&table.fields),
-        field_count: table.fields.len(),
-        lines: lines_of(&table.rules, table.mark),
-        rule_count: table.rules.len(),
+        rules: rules_of(&table.rules),
+        mark: mark_of(table.mark),
         nodes,
     };
     Ok(())

@@ -5,17 +5,14 @@ use refusal::Fault;
 use sheet::table::Sheet;
 use std::io;
 use std::io::{BufWriter, Write};
-use streams::put;
-
-// One byte more than a text may have: enough to see that it is too long.
-const ENOUGH: usize = 32769;
+use streams::{TEXT_ROOM, put};
 
 // Room for every line: a line of the text, its blanks and a mark.
 const ROOM: usize = 32771;
 
 fn main(rt: HostRuntime) -> io::Result<()> {
     // Each program reads its text by these lines: a function of a library for them would allocate.
-    let mut text = vec![in rt.alloc(); 0u8; ENOUGH]?;
+    let mut text = vec![in rt.alloc(); 0u8; TEXT_ROOM]?;
     let size = streams::fill(&mut rt.stdin(), &mut text)?;
     text.truncate(size);
     let mut line = vec![in rt.alloc(); 0u8; ROOM]?;
@@ -23,6 +20,8 @@ fn main(rt: HostRuntime) -> io::Result<()> {
     let mut sheet = Sheet::blank();
     match names::read(&text, &mut sheet) {
         Ok(found) => {
+            // std has no `From<usize>` for `u64`, so the counts are cast. `faults` has the same few lines: a function
+            // of `lines` over what `names` found would have it stand on `names`.
             let made = lines::contents_line(
                 found.fields as u64,
                 found.rules as u64,

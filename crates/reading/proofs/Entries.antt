@@ -2,7 +2,7 @@
 use Rattle.std.proofs.Common.{◌≡◌, ℕ, suc, ◌-◌, ◌<◌, ◌≤◌, Bool, true, false, not, ◌≢◌, List, [], ◌∷◌, map, length, take, Some, None, Option, sym, refl, ap, ◌∙◌, subst, ap₂, subst₂, arith}
 use Rattle.std.specs.Bool.{beq}
 use Rattle.std.proofs.lemmas.Bool.Decides.{nat_tests as tests}
-use Rattle.std.proofs.lemmas.List.{length-map, length-take-le, get_or-take, get_or-map, take-map}
+use Rattle.std.proofs.lemmas.List.{length-map, length-take-le, get_or-map, take-map}
 use Rattle.formula.specs.declared.Comparison.{Comparison}
 use Rattle.formula.specs.declared.Join.{Join as JoinWord}
 use Rattle.formula.specs.Comparing.{holds}
@@ -19,38 +19,38 @@ use Rattle.sheet.specs.declared.node.Line.{Line}
 use Rattle.sheet.specs.declared.table.Sheet.{Sheet}
 use Rattle.sheet.specs.Table.{term_of, node_at, line_at, whole, formula_at}
 use Rattle.sheet.specs.Keeping.{known_term, known_terms, entry_kept, Within}
-use Rattle.sheet.specs.Sheets.{rule_of}
+use Rattle.sheet.specs.Sheets.{rule_of, lines_in}
 use Rattle.sheet.proofs.Holding.{Parts, parts_of, formula_step}
 use Rattle.reading.specs.Steps.{values, answer, rules, Read}
 
 -- what a call keeps
 pub record Called (s : Sheet) (l r k : ℕ) (ts : List Term) : Type 0 where
-  pub below : r < s.rule_count
-  pub count : k ≡ (line_at s.lines r).params
+  pub below : r < length s.rules.items
+  pub count : k ≡ (line_at (lines_in s) r).params
   pub few : k ≤ 4
   pub long : length ts ≡ 4
-  pub known : known_terms s.field_count (line_at s.lines l).params ts ≡ true
+  pub known : known_terms (length s.ranges.items) (line_at (lines_in s) l).params ts ≡ true
 
-module _ (s : Sheet) (l i : ℕ) (w : Within s.rule_count s.lines l i) where
+module _ (s : Sheet) (l i : ℕ) (w : Within (length s.rules.items) (lines_in s) l i) where
   kept_as :
       {n : Node} → node_at s.nodes i ≡ n
-      → entry_kept s.field_count s.rule_count s.lines l i n ≡ true
+      → entry_kept (length s.ranges.items) (length s.rules.items) (lines_in s) l i n ≡ true
   kept_as is =
-      sym (ap (entry_kept s.field_count s.rule_count s.lines l i) is) ∙ s.entries_kept l i w
+      sym (ap (entry_kept (length s.ranges.items) (length s.rules.items) (lines_in s) l i) is) ∙ s.entries_kept l i w
 
   -- its parts are entries of the line that stand before it
-  pub parts_as : {n : Node} → node_at s.nodes i ≡ n → Parts (line_at s.lines l).start i n
-  parts_as {n} is = parts_of s.field_count s.rule_count s.lines l i n (kept_as is)
+  pub parts_as : {n : Node} → node_at s.nodes i ≡ n → Parts (line_at (lines_in s) l).start i n
+  parts_as {n} is = parts_of (length s.ranges.items) (length s.rules.items) (lines_in s) l i n (kept_as is)
 
   -- the two terms of a comparison are known
   pub terms_known :
       {fields params : ℕ} {t u : Term} {c : Comparison}
-      → fields ≡ s.field_count
-      → params ≡ (line_at s.lines l).params
+      → fields ≡ length s.ranges.items
+      → params ≡ (line_at (lines_in s) l).params
       → node_at s.nodes i ≡ Compare t c u
       → (known_term fields params t ≡ true) × (known_term fields params u ≡ true)
   terms_known {t = t} {u = u} p q is =
-      let left = known_term s.field_count (line_at s.lines l).params t in
+      let left = known_term (length s.ranges.items) (line_at (lines_in s) l).params t in
       let e = kept_as is in (
         ap₂ (λ (x y : ℕ). known_term x y t) p q ∙ and_left left _ e,
         ap₂ (λ (x y : ℕ). known_term x y u) p q ∙ and_right left _ e,
@@ -60,8 +60,8 @@ module _ (s : Sheet) (l i : ℕ) (w : Within s.rule_count s.lines l i) where
   pub call_kept : {r k : ℕ} {ts : List Term} → node_at s.nodes i ≡ Call r k ts → Called s l r k ts
   call_kept {r} {k} is =
       let e = kept_as is in
-      let below : r < s.rule_count = grind (arith, tests, e) in
-      let count : k ≡ (line_at s.lines r).params = grind (arith, tests, e) in
+      let below : r < length s.rules.items = grind (arith, tests, e) in
+      let count : k ≡ (line_at (lines_in s) r).params = grind (arith, tests, e) in
       record {
         below = below;
         count = count;
@@ -77,7 +77,7 @@ module _
   pub numbers_long : length vs ≡ 4
   numbers_long = ap length p ∙ length-map ts (λ t. value m e (term_of t)) ∙ c.long
 
-  pub numbers_count : length (take k vs) ≡ (line_at s.lines r).params
+  pub numbers_count : length (take k vs) ≡ (line_at (lines_in s) r).params
   numbers_count = length-take-le k vs (omega (arith, numbers_long, c.few)) ∙ c.count
 
 -- what stands past the end of the lines
@@ -86,19 +86,13 @@ no_line = record { params = 0; start = 0; body = 0 }
 
 -- the formula of a called rule
 pub rule_body :
-    (s : Sheet) (r : ℕ) → r < s.rule_count
-    → formula_at s.nodes (line_at s.lines r).body ≡ body (rules s) r
-rule_body s r lt =
-    sym
-    (ap formula_of
-    (get_or-map (rule_of s.nodes) (take s.rule_count s.lines) r no_line _
-    (subst (λ (k : ℕ). r < k) (sym (length-take-le s.rule_count s.lines
-    (omega (arith, s.long, s.few_rules)))) lt)
-    ∙ ap (rule_of s.nodes) (get_or-take s.rule_count s.lines r no_line lt)))
+    (s : Sheet) (r : ℕ) → r < length s.rules.items
+    → formula_at s.nodes (line_at s.rules.items r).body ≡ body (rules s) r
+rule_body s r lt = sym (ap formula_of (get_or-map (rule_of s.nodes) s.rules.items r no_line _ lt))
 
 -- an entry reads as the formula that it is the whole of
 as_whole :
-    (s : Sheet) (l i : ℕ) → Within s.rule_count s.lines l i
+    (s : Sheet) (l i : ℕ) → Within (length s.rules.items) (lines_in s) l i
     → (m e : List ℕ) (n : ℕ) (x : Node) → node_at s.nodes i ≡ x → (o : Option Bool) (k : ℕ)
     → Reads (rules s) m e (whole (formula_at s.nodes) x) n (answer o k)
     → Reads (rules s) m e (formula_at s.nodes i) n (answer o k)
@@ -135,7 +129,7 @@ agree false false e = refl
 
 -- the reading of the entry i of the line l, by the kind of entry
 module _
-    {s : Sheet} {m e : List ℕ} {i n : ℕ} (l : ℕ) (w : Within s.rule_count s.lines l i) where
+    {s : Sheet} {m e : List ℕ} {i n : ℕ} (l : ℕ) (w : Within (length s.rules.items) (lines_in s) l i) where
   pub read_compare :
       {t u : Term} {c : Comparison} {b : Bool} {x y : ℕ}
       → node_at s.nodes i ≡ Compare t c u
@@ -166,7 +160,7 @@ module _
       → node_at s.nodes i ≡ Call r k ts
       → (1 ≤ n) × (f ≡ n - 1)
       → vs ≡ values m e ts
-      → Read s m (take k vs) (line_at s.lines r).body f o j
+      → Read s m (take k vs) (line_at s.rules.items r).body f o j
       → Read s m e i n o j
   read_called {r} {k} {f} {ts} {o} {j} vs is fuel p d =
       let inner : Reads (rules s) m (map (value m e) (map term_of (take k ts))) (body (rules s) r) f

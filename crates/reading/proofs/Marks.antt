@@ -1,10 +1,10 @@
 -- Marks against the fields of a sheet.
-use Rattle.std.proofs.Common.{◌≡◌, ℕ, suc, ◌+◌, ◌-◌, ◌<◌, ◌≤◌, Bool, true, false, eqb, zero, IsTrue, ◌↔◌, EachIndex, zero-add, map, tests, List, [], ◌∷◌, length, get_or, take, Option, sym, refl, ◌∙◌, subst, subst₂, arith}
+use Rattle.std.proofs.Common.{◌≡◌, ℕ, suc, ◌+◌, ◌-◌, ◌<◌, Bool, true, false, eqb, zero, IsTrue, ◌↔◌, EachIndex, zero-add, map, tests, List, [], ◌∷◌, length, get_or, Option, sym, refl, ◌∙◌, subst, subst₂, arith}
 use borrow.Author.Tests.{apart_eqb}
 use Rattle.std.specs.Cmp.{both_ways}
 use Rattle.std.proofs.ByRecursion.{All-from_get_or, All-get_or}
 use Rattle.std.proofs.lemmas.Bool.Decides.{nat_tests}
-use Rattle.std.proofs.lemmas.List.{length-map, length-take-le}
+use Rattle.std.proofs.lemmas.List.{length-map}
 use Rattle.marks.specs.Sets.{Shaped}
 use Rattle.meaning.specs.Terms.{ranges_of, fields_of}
 use Rattle.meaning.specs.Reading.{ranged, calls_made, Verdict, not_allowed, verdict, Checks, out_of_range}
@@ -12,7 +12,7 @@ use Rattle.meaning.specs.Reading.{in_range}
 use Rattle.meaning.proofs.Readings.{calls_spend}
 use Rattle.sheet.specs.declared.node.Range.{Range}
 use Rattle.sheet.specs.declared.table.Sheet.{Sheet}
-use Rattle.sheet.specs.Table.{range_at, line_at}
+use Rattle.sheet.specs.Table.{range_at}
 use Rattle.sheet.specs.Sheets.{range_of, tree_of}
 use Rattle.reading.specs.Steps.{Inside, answer, rules, ranges, Read}
 
@@ -60,17 +60,9 @@ ranged_as rs m b e h =
     (λ t. h.1 (λ k lt. subst (λ i. Inside (range_at rs k) (get_or m i 0)) (zero-add k) (ranged_only rs 0 m t k (omega arith))))
 
 module _ (s : Sheet) where
-  few_fields : s.field_count ≤ length s.ranges
-  few_fields = omega (arith, s.long, s.some_fields)
-
-  pub ranges_counted : (m : List ℕ) → length m ≡ s.field_count → length m ≡ length (take s.field_count s.ranges)
-  ranges_counted m p = p ∙ sym (length-take-le s.field_count s.ranges few_fields)
-
-  pub fields_counted : fields_of (tree_of s) ≡ s.field_count
+  pub fields_counted : fields_of (tree_of s) ≡ length s.ranges.items
   unfolding tree_of
-  fields_counted =
-      length-map (take s.field_count s.ranges) range_of
-      ∙ length-take-le s.field_count s.ranges few_fields
+  fields_counted = length-map s.ranges.items range_of
 
   pub tree_ranges : ranges_of (tree_of s) ≡ ranges s
   unfolding tree_of
@@ -79,7 +71,7 @@ module _ (s : Sheet) where
   -- the shape of a mark
 
   pub shaped_when :
-      (m : List ℕ) (b : Bool) → length m ≡ s.field_count
+      (m : List ℕ) (b : Bool) → length m ≡ length s.ranges.items
       → (IsTrue b ↔ EachIndex m (λ k. get_or m k 0 < 1024))
       → (IsTrue b ↔ Shaped (fields_of (tree_of s)) m)
   shaped_when m b p h = (
@@ -88,10 +80,10 @@ module _ (s : Sheet) where
   )
 
   pub shaped_else :
-      (m : List ℕ) → (length m ≡ s.field_count → ⊥)
-      → (IsTrue (eqb (length m) s.field_count) ↔ Shaped (fields_of (tree_of s)) m)
+      (m : List ℕ) → (length m ≡ length s.ranges.items → ⊥)
+      → (IsTrue (eqb (length m) (length s.ranges.items)) ↔ Shaped (fields_of (tree_of s)) m)
   shaped_else m n =
-      let apart = apart_eqb (length m) s.field_count n in (
+      let apart = apart_eqb (length m) (length s.ranges.items) n in (
         λ t. absurd (n (search (tests, t))),
         λ x. absurd (n (x.0 ∙ fields_counted)),
       )
@@ -105,7 +97,7 @@ module _ (s : Sheet) where
 
   pub checks_in :
       (m : List ℕ) (fuel : ℕ) → true ≡ ranged (ranges s) 0 m
-      → (o : Option Bool) (k : ℕ) → Read s m [] (line_at s.lines s.rule_count).body fuel o k
+      → (o : Option Bool) (k : ℕ) → Read s m [] s.mark.body fuel o k
       → (v : Verdict) → v ≡ verdict (answer o k)
       → Checks (tree_of s) m fuel v (fuel - k)
   unfolding tree_of

@@ -1,5 +1,5 @@
 -- What the private functions of the reading promise; only their proofs need this.
-use Rattle.std.specs.Prelude.{◌≡◌, ℕ, ◌≤◌, Bool, List, map, take, Some, None, Option}
+use Rattle.std.specs.Prelude.{◌≡◌, ℕ, ◌≤◌, Bool, List, map, Some, None, Option}
 use Rattle.formula.specs.Trees.{Rule, Range}
 use Rattle.meaning.specs.Terms.{value}
 use Rattle.meaning.specs.Reading.{Answer, said, ran_out, left, Reads}
@@ -24,11 +24,11 @@ answer None k = ran_out
 
 -- the rules of a sheet
 abbrev pub rules : Sheet → List Rule
-rules s = map (rule_of s.nodes) (take s.rule_count s.lines)
+rules s = map (rule_of s.nodes) s.rules.items
 
 -- the ranges of a sheet
 abbrev pub ranges : Sheet → List Range
-ranges s = map range_of (take s.field_count s.ranges)
+ranges s = map range_of s.ranges.items
 
 -- the entry i of the sheet's table reads as r, from the fuel n to the fuel k
 pub record Read (s : Sheet) (m e : List ℕ) (i n : ℕ) (r : Option Bool) (k : ℕ) : Type 0 where

@@ -14,7 +14,7 @@ use sheet::table::Sheet;
 pub(crate) fn is_mark(sheet: &Sheet, mark: &[u16]) -> bool
     ensures { IsTrue result ↔ Shaped (fields_of (tree_of sheet.now)) mark.now }
 {
-    mark.len() == sheet.field_count && all_small(mark)
+    mark.len() == sheet.field_count() && all_small(mark)
 }
 
 // Whether each number is at most 1,023.
@@ -26,10 +26,10 @@ fn all_small(mark: &[u16]) -> bool
 
 // Whether the numbers of the mark lie in the ranges of their fields.
 pub(crate) fn in_ranges(sheet: &Sheet, mark: &[u16]) -> bool
-    requires { length mark.now ≡ sheet.now.field_count }
+    requires { length mark.now ≡ length sheet.now.ranges.items }
     ensures { result ≡ ranged (ranges sheet.now) 0 mark.now }
 {
-    all_between(mark, &sheet.ranges[..sheet.field_count])
+    all_between(mark, &sheet.ranges)
 }
 
 // Whether each number lies in its range.

@@ -2,6 +2,7 @@
 ghost use Rattle.std.specs.Prelude.{◌≡◌, ◌≤◌, length};
 ghost use Rattle.sheet.specs.Table.{line_at};
 ghost use Rattle.sheet.specs.Keeping.{Within};
+ghost use Rattle.sheet.specs.Sheets.{lines_in};
 ghost use Rattle.reading.specs.Steps.{Read};
 
 use crate::terms::Numbers;
@@ -17,9 +18,9 @@ pub(crate) fn read(
     node: usize,
     fuel: &mut u8,
 ) -> Option<bool>
-    requires within { Within sheet.now.rule_count sheet.now.lines line node }
-    requires fields { length numbers.mark.now ≡ sheet.now.field_count }
-    requires params { length numbers.args.now ≡ (line_at sheet.now.lines line).params }
+    requires within { Within (length sheet.now.rules.items) (lines_in sheet.now) line node }
+    requires fields { length numbers.mark.now ≡ length sheet.now.ranges.items }
+    requires params { length numbers.args.now ≡ (line_at (lines_in sheet.now) line).params }
     ensures read { Read sheet.now numbers.entry.mark.now numbers.entry.args.now node
         fuel.old result fuel.new }
     ensures falls { fuel.new ≤ fuel.old }
@@ -34,7 +35,7 @@ pub(crate) fn read(
             *fuel = fuel.checked_sub(1)?;
             let passed = numbers.of_terms(terms);
             let (rule, count) = (rule as usize, count as usize);
-            let body = sheet.lines[rule].body as usize;
+            let body = sheet.rules[rule].body as usize;
             let mark = numbers.mark;
             let args = &passed[..count];
             read(sheet, Numbers { mark, args }, rule, body, fuel)

@@ -56,8 +56,8 @@ fn read_mark(sheet: &Sheet, mark: &[u16], fuel: u8) -> Reading
         };
     }
     let mut left = fuel;
-    let line = sheet.rule_count;
-    let body = sheet.lines[line].body as usize;
+    let line = sheet.rules.len();
+    let body = sheet.mark.body as usize;
     let numbers = Numbers { mark, args: &[] };
     let result = formulas::read(sheet, numbers, line, body, &mut left);
     Reading {

@@ -44,7 +44,18 @@ impl Refusal {
         self as u8
     }
 
-    // The layer of reading that refuses: 1 signs, 2 grammar, 3 names; 0 for a refusal that is not of a text.
+    // The fault that this refusal is at a place of the text.
+    pub fn at(self, place: usize) -> Fault
+        ensures { result ≡ record { place = place; refusal = self } }
+    {
+        Fault {
+            place,
+            refusal: self,
+        }
+    }
+
+    // The layer of reading that refuses: 1 signs, 2 grammar, 3 names; 0 for a refusal that is not of a text. It is a
+    // number, and no enum, since the line of a fault prints it.
     pub fn layer(self) -> u8
         ensures { result ≡ layer self }
     {

@@ -1,7 +1,7 @@
 // The register store: its marks are the rows of a register that is held for reading.
 #![tactic(auto)]
 
-ghost use Rattle.std.specs.Prelude.{◌≡◌};
+ghost use Rattle.std.specs.Prelude.{◌≡◌, length};
 ghost use Rattle.std.specs.Slice.Iter.{chunks_exact_rest, chunks_exact_size};
 ghost use Rattle.store.specs.Rules.{TellsEmpty};
 ghost use Rattle.store.specs.TakenRows.{HasTaken};
@@ -27,8 +27,8 @@ impl<'a> RegisterStore<'a> {
     // The store of a sheet's fields with the marks of the register. A repeated row is one mark;
     // an unfinished last row and a row with a number above 1,023 count for nothing.
     pub fn new(sheet: &Sheet, register: &'a [u16]) -> RegisterStore<'a>
-        ensures fields { width_of result ≡ sheet.now.field_count }
-        ensures starts { HasRows sheet.now.field_count register.now
+        ensures fields { width_of result ≡ length sheet.now.ranges.items }
+        ensures starts { HasRows (length sheet.now.ranges.items) register.now
             (register_start result) }
         ensures left { register_left result ≡ register_start result }
     {

@@ -61,10 +61,10 @@ module _ (sh : Table) (fuel n : ℕ) (S : Marks) (C : MarksOf n S) (agree : n �
   -- the outcome that a report tells
   told_end :
       (end : Result (List ℕ) Stop) (m m' : List ℕ) (ended : Ended)
-      → Reported end sh.field_count m (Some ended) m'
+      → Reported end (length sh.ranges.items) m (Some ended) m'
       → end_of end (fields_of (tree_of sh)) ≡ Some (outcome_of ended n m')
   told_end end m m' ended told =
-      let wide : n ≡ sh.field_count = agree ∙ fields_are sh in
+      let wide : n ≡ length sh.ranges.items = agree ∙ fields_are sh in
       subst (λ k. end_of end k ≡ Some (outcome_of ended n m')) agree
       (subst (λ k. Reported end k m (Some ended) m') (sym wide) told).0
 
@@ -116,7 +116,7 @@ module _ (sh : Table) (fuel n : ℕ) (S : Marks) (C : MarksOf n S) (agree : n �
     pub follows_whole :
         (ended : Ended)
         → given ≤ at
-        → Reported end sh.field_count before.mark (Some ended) after.mark
+        → Reported end (length sh.ranges.items) before.mark (Some ended) after.mark
         → Follows (setting (tree_of sh) fuel n S) given before (Ok (record { ended = ended; length = at })) after
     follows_whole ended h told =
         let B = subst (λ k. MarksOf k S) agree C in
@@ -144,7 +144,7 @@ module _ (sh : Table) (fuel n : ℕ) (S : Marks) (C : MarksOf n S) (agree : n �
     -- past the entries no run is halted
     pub follows_on :
         given ≤ at
-        → Reported end sh.field_count before.mark None after.mark
+        → Reported end (length sh.ranges.items) before.mark None after.mark
         → ⊥
     follows_on h told =
         let k = along_halt (tree_of sh) fuel S start left end
@@ -158,7 +158,7 @@ module _ (sh : Table) (fuel n : ℕ) (S : Marks) (C : MarksOf n S) (agree : n �
     -- a draw to the end of its run, and one that finds no number
     pub draws_to :
         (ended : Option Ended)
-        → Reported end sh.field_count before.mark ended after.mark
+        → Reported end (length sh.ranges.items) before.mark ended after.mark
         → DrawsTo (setting (tree_of sh) fuel n S) ns rest before (record { ended = ended; length = at }) after
     draws_to (Some ended) told =
         let o = outcome_of ended n after.mark in

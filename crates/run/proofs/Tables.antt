@@ -19,7 +19,8 @@ use Rattle.sheet.specs.declared.table.Sheet.{Sheet}
 use Rattle.sheet.specs.Table.{node_at, line_at, formula_at}
 use Rattle.sheet.specs.Keeping.{Within, known_name, known_shift, known_term, known_terms, entry_kept, size}
 use Rattle.sheet.specs.Keeping.{joins as joins_kept}
-use Rattle.sheet.specs.Sheets.{range_of, rule_of, tree_of, sizes_of}
+use Rattle.sheet.specs.Sheets.{range_of, rule_of, tree_of, sizes_of, lines_in}
+use Rattle.sheet.proofs.Lines.{rule_in_lines, mark_in_lines}
 use Rattle.sheet.proofs.Holding.{parts_of}
 use Rattle.run.specs.Frames.{NameOkay, ShiftOkay, TermOkay}
 use Rattle.run.specs.Goals.{TermsOkay}
@@ -67,46 +68,46 @@ firsts_okay w k ts n l few h =
 abbrev pub NodeOkay : Sheet → (w k l i : ℕ) → Node → Type 0
 NodeOkay s w k l i (Compare t c u) = TermOkay w k t × TermOkay w k u
 NodeOkay s w k l i (Call r n ts) =
-    (r < s.rule_count) × (n ≡ (line_at s.lines r).params) × (n ≤ length ts) × TermsOkay w k (take n ts)
-NodeOkay s w k l i (Not a) = Within s.rule_count s.lines l a
-NodeOkay s w k l i (Pick x a) = NameOkay w k x × Within s.rule_count s.lines l a
+    (r < length s.rules.items) × (n ≡ (line_at (lines_in s) r).params) × (n ≤ length ts) × TermsOkay w k (take n ts)
+NodeOkay s w k l i (Not a) = Within (length s.rules.items) (lines_in s) l a
+NodeOkay s w k l i (Pick x a) = NameOkay w k x × Within (length s.rules.items) (lines_in s) l a
 NodeOkay s w k l i (Join j v u a b) =
-    (0 < v) × Within s.rule_count s.lines l a × Within s.rule_count s.lines l b
+    (0 < v) × Within (length s.rules.items) (lines_in s) l a × Within (length s.rules.items) (lines_in s) l b
 
-module _ (s : Sheet) (l i : ℕ) (w : Within s.rule_count s.lines l i) where
+module _ (s : Sheet) (l i : ℕ) (w : Within (length s.rules.items) (lines_in s) l i) where
   abbrev okay : Node → Type 0
-  okay = NodeOkay s s.field_count (line_at s.lines l).params l i
+  okay = NodeOkay s (length s.ranges.items) (line_at (lines_in s) l).params l i
 
-  part_within : (a : ℕ) → (line_at s.lines l).start ≤ a → a < i → Within s.rule_count s.lines l a
+  part_within : (a : ℕ) → (line_at (lines_in s) l).start ≤ a → a < i → Within (length s.rules.items) (lines_in s) l a
   part_within a from less = (w.0, from, omega (arith, w.2))
 
-  okay_of : (x : Node) → entry_kept s.field_count s.rule_count s.lines l i x ≡ true → okay x
+  okay_of : (x : Node) → entry_kept (length s.ranges.items) (length s.rules.items) (lines_in s) l i x ≡ true → okay x
   okay_of (Compare t c u) e =
-      let h = both (known_term s.field_count (line_at s.lines l).params t)
-      (known_term s.field_count (line_at s.lines l).params u) e in
+      let h = both (known_term (length s.ranges.items) (line_at (lines_in s) l).params t)
+      (known_term (length s.ranges.items) (line_at (lines_in s) l).params u) e in
       (term_okay _ _ t h.0, term_okay _ _ u h.1)
   okay_of (Call r n ts) e =
-      let reaches : (r < s.rule_count) × (n ≡ (line_at s.lines r).params) × (length ts ≡ 4) = grind
+      let reaches : (r < length s.rules.items) × (n ≡ (line_at (lines_in s) r).params) × (length ts ≡ 4) = grind
       (arith, nat_tests, e) in
-      let knows : known_terms s.field_count (line_at s.lines l).params ts ≡ true = grind
+      let knows : known_terms (length s.ranges.items) (line_at (lines_in s) l).params ts ≡ true = grind
       (arith, nat_tests, e) in
       let few = (s.lines_kept r (omega (arith, reaches.0))).0 in (
         reaches.0,
         reaches.1,
         omega (arith, few, reaches.1, reaches.2),
-        firsts_okay s.field_count (line_at s.lines l).params ts n (omega (arith, few, reaches.1, reaches.2))
+        firsts_okay (length s.ranges.items) (line_at (lines_in s) l).params ts n (omega (arith, few, reaches.1, reaches.2))
             (omega (arith, few, reaches.1)) (terms_okay _ _ ts knows),
       )
   okay_of (Not a) e =
-      let h = parts_of s.field_count s.rule_count s.lines l i (Not a) e in
+      let h = parts_of (length s.ranges.items) (length s.rules.items) (lines_in s) l i (Not a) e in
       part_within a h.0 h.1
   okay_of (Pick x a) e =
-      let h = parts_of s.field_count s.rule_count s.lines l i (Pick x a) e in
-      let knows : known_name s.field_count (line_at s.lines l).params x ≡ true = grind
+      let h = parts_of (length s.ranges.items) (length s.rules.items) (lines_in s) l i (Pick x a) e in
+      let knows : known_name (length s.ranges.items) (line_at (lines_in s) l).params x ≡ true = grind
       (arith, nat_tests, e) in
       (name_okay _ _ x knows, part_within a h.0 h.1)
   okay_of (Join j v u a b) e =
-      let h = parts_of s.field_count s.rule_count s.lines l i (Join j v u a b) e in
+      let h = parts_of (length s.ranges.items) (length s.rules.items) (lines_in s) l i (Join j v u a b) e in
       let left : 0 < v = grind (arith, nat_tests, e) in
       (left, part_within a h.0.0 h.0.1, part_within b h.1.0 h.1.1)
 
@@ -120,38 +121,32 @@ no_line = record { params = 0; start = 0; body = 0 }
 
 pub rules_are :
     (s : Sheet)
-    → rules_of (tree_of s) ≡ map (rule_of s.nodes) (take s.rule_count s.lines)
+    → rules_of (tree_of s) ≡ map (rule_of s.nodes) s.rules.items
 unfolding tree_of
 rules_are s = refl
 
-pub mark_is :
-    (s : Sheet)
-    → mark_line (tree_of s) ≡ formula_at s.nodes (line_at s.lines s.rule_count).body
+pub mark_is : (s : Sheet) → mark_line (tree_of s) ≡ formula_at s.nodes s.mark.body
 unfolding tree_of
 mark_is s = refl
 
-pub ranges_are : (s : Sheet) → ranges_of (tree_of s) ≡ map range_of (take s.field_count s.ranges)
+pub ranges_are : (s : Sheet) → ranges_of (tree_of s) ≡ map range_of s.ranges.items
 unfolding tree_of
 ranges_are s = refl
 
-pub fields_are : (s : Sheet) → fields_of (tree_of s) ≡ s.field_count
-fields_are s =
-    ap length (ranges_are s) ∙ length-map (take s.field_count s.ranges) range_of
-    ∙ length-take-le s.field_count s.ranges (omega (arith, s.long, s.some_fields))
+pub fields_are : (s : Sheet) → fields_of (tree_of s) ≡ length s.ranges.items
+fields_are s = ap length (ranges_are s) ∙ length-map s.ranges.items range_of
 
 pub body_is :
     (s : Sheet) (r : ℕ)
-    → r < s.rule_count
-    → body (rules_of (tree_of s)) r ≡ formula_at s.nodes (line_at s.lines r).body
+    → r < length s.rules.items
+    → body (rules_of (tree_of s)) r ≡ formula_at s.nodes (line_at (lines_in s) r).body
 unfolding no_line
 body_is s r h =
-    let long : s.rule_count ≤ length s.lines = omega (arith, s.long, s.few_rules) in
     let none : Rule = rule 0 (compare (num 0) Equal (num 1)) in
     ap (λ q. body q r) (rules_are s)
     ∙ ap formula_of
-    (get_or-map (rule_of s.nodes) (take s.rule_count s.lines) r no_line none
-    (subst (λ k. r < k) (sym (length-take-le s.rule_count s.lines long)) h)
-    ∙ ap (rule_of s.nodes) (get_or-take s.rule_count s.lines r no_line h))
+    (get_or-map (rule_of s.nodes) s.rules.items r no_line none h
+    ∙ ap (rule_of s.nodes) (sym (rule_in_lines s.rules.items s.mark r h)))
 
 -- the two counts of joins agree
 pub joins_same : (F : Formula) → joins F ≡ joins_kept F
@@ -163,10 +158,16 @@ joins_same (join j v w F G) = let a = joins_same F in let b = joins_same G in om
 
 pub line_joins :
     (s : Sheet) (l : ℕ)
-    → l ≤ s.rule_count
-    → joins (formula_at s.nodes (line_at s.lines l).body) ≤ 16
-line_joins s l h = let e = joins_same (formula_at s.nodes (line_at s.lines l).body) in omega
+    → l ≤ length s.rules.items
+    → joins (formula_at s.nodes (line_at (lines_in s) l).body) ≤ 16
+line_joins s l h = let e = joins_same (formula_at s.nodes (line_at (lines_in s) l).body) in omega
     (arith, s.few_joins l h)
+
+pub mark_joins : (s : Sheet) → joins (mark_line (tree_of s)) ≤ 16
+mark_joins s =
+    subst (λ G. joins G ≤ 16) (sym (mark_is s))
+    (subst (λ l. joins (formula_at s.nodes l.body) ≤ 16) (mark_in_lines s.rules.items s.mark)
+    (line_joins s (length s.rules.items) (omega arith)))
 
 joins_in :
     (rules : List Rule) (r : ℕ)
@@ -178,12 +179,10 @@ joins_in (x ∷ rules) (suc r) h = joins_in rules r (λ i l. h (suc i) (omega ar
 
 pub body_joins : (s : Sheet) (r : ℕ) → joins (body (rules_of (tree_of s)) r) ≤ 16
 body_joins s r =
-    let long : s.rule_count ≤ length s.lines = omega (arith, s.long, s.few_rules) in
-    let many : length (rules_of (tree_of s)) ≡ s.rule_count =
-    ap length (rules_are s) ∙ length-map (take s.rule_count s.lines) (rule_of s.nodes) ∙
-    length-take-le s.rule_count s.lines long in
+    let many : length (rules_of (tree_of s)) ≡ length s.rules.items =
+    ap length (rules_are s) ∙ length-map s.rules.items (rule_of s.nodes) in
     joins_in (rules_of (tree_of s)) r (λ i l.
-    let less : i < s.rule_count = omega (arith, many) in
+    let less : i < length s.rules.items = omega (arith, many) in
     subst (λ F. joins F ≤ 16) (sym (body_is s i less)) (line_joins s i (omega (arith, less))))
 
 size_in : (rules : List Rule) (r : ℕ) → r < length rules → size (body rules r) ≤ sizes_of rules
@@ -193,13 +192,11 @@ size_in (rule n F ∷ rules) (suc r) h = let k = size_in rules r (omega arith) i
 
 pub body_size :
     (s : Sheet) (r : ℕ)
-    → r < s.rule_count
-    → size (formula_at s.nodes (line_at s.lines r).body) ≤ sizes_of (rules_of (tree_of s))
+    → r < length s.rules.items
+    → size (formula_at s.nodes (line_at (lines_in s) r).body) ≤ sizes_of (rules_of (tree_of s))
 body_size s r h =
-    let long : s.rule_count ≤ length s.lines = omega (arith, s.long, s.few_rules) in
-    let many : length (rules_of (tree_of s)) ≡ s.rule_count =
-    ap length (rules_are s) ∙ length-map (take s.rule_count s.lines) (rule_of s.nodes) ∙
-    length-take-le s.rule_count s.lines long in
+    let many : length (rules_of (tree_of s)) ≡ length s.rules.items =
+    ap length (rules_are s) ∙ length-map s.rules.items (rule_of s.nodes) in
     subst (λ F. size F ≤ sizes_of (rules_of (tree_of s))) (body_is s r h)
     (size_in (rules_of (tree_of s)) r (omega (arith, many)))
 
@@ -207,6 +204,6 @@ body_size s r h =
 pub few_joins : (s : Sheet) → FewJoins (tree_of s) 16
 few_joins s =
     record {
-      marked = subst (λ G. joins G ≤ 16) (sym (mark_is s)) (line_joins s s.rule_count (omega arith));
+      marked = mark_joins s;
       ruled = body_joins s;
     }

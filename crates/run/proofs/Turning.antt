@@ -15,7 +15,7 @@ use Rattle.sheet.specs.declared.node.Node.TheVariants.{Not, Compare, Pick, Join,
 use Rattle.sheet.specs.declared.node.Term.{Term}
 use Rattle.sheet.specs.declared.table.Sheet.{Sheet}
 use Rattle.sheet.specs.Table.{name_of, node_at, term_of, line_at, formula_at, whole}
-use Rattle.sheet.specs.Sheets.{tree_of}
+use Rattle.sheet.specs.Sheets.{tree_of, lines_in}
 use Rattle.run.specs.declared.goal.Argument.{Argument as Held}
 use Rattle.run.specs.declared.goal.Goal.{Goal}
 use Rattle.run.specs.declared.goal.Frame.{Frame}
@@ -35,7 +35,7 @@ use Rattle.run.proofs.Tables.{NodeOkay, body_is}
 use Rattle.run.proofs.Turns.{top, framed, above, rest, stands, opened, node_okay, frame_okay, none_put, one_put, two_put, call_put, depth, two_room, entered}
 use Rattle.run.proofs.Arms.{negate_led, compare_fits, compare_halt, compare_led, compare_dead, pick_fits, pick_halt, pick_led, left_led, sides_led, join_halt, join_fits, call_fits, call_halt, call_led, call_spent}
 
-module _ (sh : Sheet) (w : ℕ) (wide : w ≡ sh.field_count) (gs : List Goal) (fs : List Frame) (n f u : ℕ)
+module _ (sh : Sheet) (w : ℕ) (wide : w ≡ length sh.ranges.items) (gs : List Goal) (fs : List Frame) (n f u : ℕ)
     (fit : Fit sh (spot gs fs (depth n f u))) (more : 0 < n) (S : Marks) (sound : MarksOf w S)
     (lives : some w S ≡ true) (z : Way) where
   abbrev rules : List Rule
@@ -262,22 +262,22 @@ module _ (sh : Sheet) (w : ℕ) (wide : w ≡ sh.field_count) (gs : List Goal) (
         → v ≡ Some a
         → Passed w e S (map term_of (take k ts)) m z v P y
         → (q : Spot) (o : Result Unit Stop)
-        → Entered a (line_at sh.lines r).body b (spot gs fs (depth (n - 1) f u)) o q
+        → Entered a (line_at (lines_in sh) r).body b (spot gs fs (depth (n - 1) f u)) o q
         → Turned sh all u S z o q P y
     call_done m P y v a long told passed q o entry =
         let h = subst (λ d. Passed w e S (map term_of (take k ts)) m z d P y) told passed in
         let is = opened sh w wide gs fs n f u fit more (Call r k ts) at in
         let ok = node_okay sh w wide gs fs n f u fit more (Call r k ts) at in
         let terms = map term_of (take k ts) in
-        let moved : Entered a (line_at sh.lines r).body b (spot gs fs (depth (n - 1) f u)) (Ok tt) q → Turned sh all
+        let moved : Entered a (line_at (lines_in sh) r).body b (spot gs fs (depth (n - 1) f u)) (Ok tt) q → Turned sh all
         u S z (Ok tt) q P y =
         λ m'. call_put sh w wide gs fs n f u fit more S P z y h.alive (whole part (Call r k ts)) b is r b a q.goals
         q.frames q.depth m'.0 ok.0 refl refl h.okay (h.count ∙ long ∙ ok.1) m'.1 m'.2 m'.3
-        (call_led rules e b below S C x w z r terms u m P y a (part (line_at sh.lines r).body) m'.0
+        (call_led rules e b below S C x w z r terms u m P y a (part (line_at (lines_in sh) r).body) m'.0
         (body_is sh r ok.0) h) in
-        let out : Entered a (line_at sh.lines r).body b (spot gs fs (depth (n - 1) f u)) (Err Spent) q → Turned sh all
+        let out : Entered a (line_at (lines_in sh) r).body b (spot gs fs (depth (n - 1) f u)) (Err Spent) q → Turned sh all
         u S z (Err Spent) q P y =
         λ m'. subst (λ v. Took z (λ t'. Solves rules v (live u S) t' spent) y) (sym is)
         (call_spent rules e b below S C x w z r terms u m P y a m' h) in
-        entered sh gs fs n u S P z y q a (line_at sh.lines r).body b (spot gs fs (depth (n - 1) f u)) moved out o
+        entered sh gs fs n u S P z y q a (line_at (lines_in sh) r).body b (spot gs fs (depth (n - 1) f u)) moved out o
         entry

@@ -19,7 +19,7 @@ use Rattle.sheet.specs.declared.node.Node.{Node}
 use Rattle.sheet.specs.declared.table.Sheet.{Sheet}
 use Rattle.sheet.specs.Table.{node_at, line_at, formula_at, whole}
 use Rattle.sheet.specs.Keeping.{Within, size}
-use Rattle.sheet.specs.Sheets.{tree_of, sizes_of}
+use Rattle.sheet.specs.Sheets.{tree_of, sizes_of, lines_in}
 use Rattle.sheet.proofs.Holding.{formula_step}
 use Rattle.run.specs.declared.goal.Goal.{Goal}
 use Rattle.run.specs.declared.goal.Frame.{Frame}
@@ -136,7 +136,7 @@ module _ {s : Sheet} {gs : List Goal} {fs : List Frame} {n f u : ℕ} (h : Good 
     pub good_call :
         (x : Frame)
         → 0 < u
-        → FrameOkay s.field_count x
+        → FrameOkay (length s.ranges.items) x
         → Good s (spot gs (set fs f x) (depth n (f + 1) (u - 1)))
     good_call x l ok =
         record {
@@ -144,7 +144,7 @@ module _ {s : Sheet} {gs : List Goal} {fs : List Frame} {n f u : ℕ} (h : Good 
           frames_hold = simp length-set (omega (arith, h.frames_hold));
           few = omega (arith, h.few);
           stood = λ i b. stood_more s fs f x (get_or gs i no_goal) (h.stood i b);
-          okay = framed_all (FrameOkay s.field_count) fs f x (omega (arith, h.frames_hold)) ok h.okay;
+          okay = framed_all (FrameOkay (length s.ranges.items)) fs f x (omega (arith, h.frames_hold)) ok h.okay;
         }
 
 -- whatever is left can be solved
@@ -159,7 +159,7 @@ solves_some rules (goal e F b ∷ gs) S C i a h =
     (λ m k. h m (matched_sound rules m r.3 k).0) in
     (r.0 ++ q.0, q.1, solves r.3 q.2)
 
-module _ (s : Sheet) (w : ℕ) (wide : w ≡ s.field_count) (gs : List Goal) (fs : List Frame) (n f u : ℕ)
+module _ (s : Sheet) (w : ℕ) (wide : w ≡ length s.ranges.items) (gs : List Goal) (fs : List Frame) (n f u : ℕ)
     (fit : Fit s (spot gs fs (depth n f u))) (more : 0 < n) where
   abbrev pub top : Goal
   top = get_or gs (n - 1) no_goal
@@ -179,7 +179,7 @@ module _ (s : Sheet) (w : ℕ) (wide : w ≡ s.field_count) (gs : List Goal) (fs
   -- a part of the same line stands in the same frame
   pub stands_part :
       (k : ℕ) (c : Bool)
-      → Within s.rule_count s.lines stands.line k
+      → Within (length s.rules.items) (lines_in s) stands.line k
       → Stood s fs f (record { formula = k; target = c; frame = top.frame })
   stands_part k c i = record { line = stands.line; within = i; frame = stands.frame; count = stands.count }
 
@@ -200,7 +200,7 @@ module _ (s : Sheet) (w : ℕ) (wide : w ≡ s.field_count) (gs : List Goal) (fs
       subst (NodeOkay s w framed.count stands.line top.formula) e
       (subst (λ k. NodeOkay s k framed.count stands.line top.formula
       (node_at s.nodes top.formula)) (sym wide)
-      (subst (λ k. NodeOkay s s.field_count k stands.line top.formula
+      (subst (λ k. NodeOkay s (length s.ranges.items) k stands.line top.formula
       (node_at s.nodes top.formula)) (sym stands.count)
       (entry_okay s stands.line top.formula stands.within)))
 
@@ -209,7 +209,7 @@ module _ (s : Sheet) (w : ℕ) (wide : w ≡ s.field_count) (gs : List Goal) (fs
 
   module _ (S P : Marks) (z y : Way) (alive : some w P ≡ true) (F : Formula) (b : Bool)
       (is : pending s gs fs n ≡ goal above F b ∷ rest) where
-    alive_in : some s.field_count P ≡ true
+    alive_in : some (length s.ranges.items) P ≡ true
     alive_in = subst (λ k. some k P ≡ true) wide alive
 
     -- the goal is gone
@@ -230,7 +230,7 @@ module _ (s : Sheet) (w : ℕ) (wide : w ≡ s.field_count) (gs : List Goal) (fs
     -- another stands in its place
     pub one_put :
         (k : ℕ) (c : Bool) (gs' : List Goal) (fs' : List Frame) (D : Depth)
-        → Within s.rule_count s.lines stands.line k
+        → Within (length s.rules.items) (lines_in s) stands.line k
         → joins (formula_at s.nodes k) ≤ joins F
         → size (formula_at s.nodes k) < size F
         → gs' ≡ set gs (n - 1) (record { formula = k; target = c; frame = top.frame })
@@ -264,8 +264,8 @@ module _ (s : Sheet) (w : ℕ) (wide : w ≡ s.field_count) (gs : List Goal) (fs
     -- two stand in its place
     pub two_put :
         (k c : ℕ) (p q : Bool) (gs₁ gs' : List Goal) (fs' : List Frame) (D₁ D : Depth)
-        → Within s.rule_count s.lines stands.line k
-        → Within s.rule_count s.lines stands.line c
+        → Within (length s.rules.items) (lines_in s) stands.line k
+        → Within (length s.rules.items) (lines_in s) stands.line c
         → suc (joins (formula_at s.nodes k) + joins (formula_at s.nodes c)) ≤ joins F
         → size (formula_at s.nodes k) + size (formula_at s.nodes c) < size F
         → gs₁ ≡ set gs (n - 1) (record { formula = c; target = q; frame = top.frame })
@@ -317,19 +317,19 @@ module _ (s : Sheet) (w : ℕ) (wide : w ≡ s.field_count) (gs : List Goal) (fs
     pub call_put :
         (r : ℕ) (c : Bool) (x : Frame) (gs' : List Goal) (fs' : List Frame) (D : Depth)
         → 0 < u
-        → r < s.rule_count
+        → r < length s.rules.items
         → size F ≡ 1
         → joins F ≡ 0
         → FrameOkay w x
-        → x.count ≡ (line_at s.lines r).params
-        → gs' ≡ set gs (n - 1) (record { formula = (line_at s.lines r).body; target = c; frame = f })
+        → x.count ≡ (line_at (lines_in s) r).params
+        → gs' ≡ set gs (n - 1) (record { formula = (line_at (lines_in s) r).body; target = c; frame = f })
         → fs' ≡ set fs f x
         → D ≡ depth (n - 1 + 1) (f + 1) (u - 1)
         → Took z (Leads (rules_of (tree_of s)) (goal above F b ∷ rest) u S
-        (goal (arguments_of x) (formula_at s.nodes (line_at s.lines r).body) c ∷ rest) (u - 1) P) y
+        (goal (arguments_of x) (formula_at s.nodes (line_at (lines_in s) r).body) c ∷ rest) (u - 1) P) y
         → Moves s (pending s gs fs n) u S z (spot gs' fs' D) P y
     call_put r c x gs' fs' D fueled inner one none ok counted eg ef ed led =
-        let a : Goal = record { formula = (line_at s.lines r).body; target = c; frame = f } in
+        let a : Goal = record { formula = (line_at (lines_in s) r).body; target = c; frame = f } in
         let room : n - 1 < length gs = omega (arith, fit.0.hold) in
         let framed : f < length fs = omega (arith, fit.0.frames_hold) in
         let low : (i : ℕ) → i < n - 1 → (get_or gs i no_goal).frame < f = λ i l. (fit.0.stood i (omega arith)
@@ -337,7 +337,7 @@ module _ (s : Sheet) (w : ℕ) (wide : w ≡ s.field_count) (gs : List Goal) (fs
         let put =
         pending_push s gs (set fs f x) (n - 1) a room
         ∙ (λ j. goal (arguments_of (get_or-set_same fs f x no_frame framed j))
-        (formula_at s.nodes (line_at s.lines r).body) c ∷ pending_frame s gs fs f x (n - 1) low j)
+        (formula_at s.nodes (line_at (lines_in s) r).body) c ∷ pending_frame s gs fs f x (n - 1) low j)
         in
         let l = ap load is in
         let m = ap mass is in
@@ -365,7 +365,7 @@ module _ (s : Sheet) (w : ℕ) (wide : w ≡ s.field_count) (gs : List Goal) (fs
               subst (λ q. Took z (Leads (rules_of (tree_of s)) (pending s gs fs n) u S q (u - 1) P) y)
               (sym put)
               (subst (λ v. Took z (Leads (rules_of (tree_of s)) v u S
-              (goal (arguments_of x) (formula_at s.nodes (line_at s.lines r).body) c ∷ rest)
+              (goal (arguments_of x) (formula_at s.nodes (line_at (lines_in s) r).body) c ∷ rest)
               (u - 1) P) y) (sym is) led);
           fit = (
             good_push (good_call (good_pop fit.0) x fueled (subst (λ k. FrameOkay k x) wide ok)) a room

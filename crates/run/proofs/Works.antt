@@ -4,13 +4,11 @@ use Rattle.formula.specs.Trees.{Formula, Rule}
 use Rattle.marks.specs.Sets.{Marks}
 use Rattle.marks.specs.Counted.{some}
 use Rattle.meaning.specs.Terms.{mark_line, rules_of}
-use Rattle.meaning.specs.Lengths.{joins}
 use Rattle.meaning.specs.Matching.{State, live, dead, spent, Matches}
 use Rattle.meaning.specs.Pending.{goal, Solves, solved, load}
 use Rattle.meaning.specs.Pending.{Goal as Waiting}
 use Rattle.meaning.proofs.Pending.{alone}
 use Rattle.sheet.specs.declared.table.Sheet.{Sheet}
-use Rattle.sheet.specs.Table.{line_at}
 use Rattle.sheet.specs.Sheets.{tree_of}
 use Rattle.run.specs.declared.goal.Goal.{Goal}
 use Rattle.run.specs.declared.goal.Frame.{Frame}
@@ -22,14 +20,15 @@ use Rattle.run.specs.Goals.{Spot, spot, pending, Stood, Fit, no_goal, no_frame, 
 use Rattle.run.specs.Works.{Matching, Matched, Worked}
 use Rattle.run.proofs.Ways.{took_map, took_none, took_join, halt_after, fits_after}
 use Rattle.run.proofs.Passing.{blank, blank_okay}
-use Rattle.run.proofs.Tables.{mark_is, line_joins}
+use Rattle.sheet.proofs.Lines.{mark_in_lines}
+use Rattle.run.proofs.Tables.{mark_is, mark_joins}
 use Rattle.run.proofs.Turns.{depth, pending_push}
 
 -- the beginning
 module _ (s : Sheet) (gs : List Goal) (fs : List Frame) (fuel : ℕ) (hg : 16 * (fuel + 1) + 8 ≤ length gs)
     (hf : fuel + 1 ≤ length fs) (few : fuel ≤ 255) where
   abbrev pub start_goal : Goal
-  start_goal = record { formula = (line_at s.lines s.rule_count).body; target = true; frame = 0 }
+  start_goal = record { formula = s.mark.body; target = true; frame = 0 }
 
   pub first_stack : pending s (set gs 0 start_goal) (set fs 0 blank) 1 ≡ goal [] (mark_line (tree_of s)) true
       ∷ []
@@ -46,18 +45,18 @@ module _ (s : Sheet) (gs : List Goal) (fs : List Frame) (fuel : ℕ) (hg : 16 * 
       let lg = length-set gs 0 start_goal in
       let lf = length-set fs 0 blank in
       let l = ap load first_stack in
-      let few_joins = subst (λ F. joins F ≤ 16) (sym (mark_is s))
-      (line_joins s s.rule_count (omega arith)) in
-      let line = s.lines_kept s.rule_count (omega arith) in
+      let few_joins = mark_joins s in
+      let at = mark_in_lines s.rules.items s.mark in
+      let line = s.lines_kept (length s.rules.items) (omega arith) in
       let stood : Stood s (set fs 0 blank) 1 start_goal =
       record {
-        line = s.rule_count;
-        within = (omega arith, line.1, omega arith);
+        line = (length s.rules.items);
+        within = (omega arith, omega (arith, line.1, ap (λ l. l.body) at), omega (arith, ap (λ l. l.body) at));
         frame = omega arith;
-        count = ap (λ q. q.count) (get_or-set_same fs 0 blank no_frame b) ∙ sym s.mark_plain;
+        count = ap (λ q. q.count) (get_or-set_same fs 0 blank no_frame b) ∙ sym (ap (λ l. l.params) at ∙ s.mark_plain);
       } in
-      let okay : FrameOkay s.field_count blank = record
-      { few = omega arith; each = blank_okay s.field_count } in (
+      let okay : FrameOkay (length s.ranges.items) blank = record
+      { few = omega arith; each = blank_okay (length s.ranges.items) } in (
         record {
           hold = omega arith;
           frames_hold = omega arith;
@@ -68,8 +67,8 @@ module _ (s : Sheet) (gs : List Goal) (fs : List Frame) (fuel : ℕ) (hg : 16 * 
               (subst (Stood s (set fs 0 blank) 1) (sym (get_or-set_same gs 0 start_goal no_goal a)) stood);
           okay = λ i h.
               let z : 0 ≡ i = omega arith in
-              subst (λ q. FrameOkay s.field_count (get_or (set fs 0 blank) q no_frame)) z
-              (subst (FrameOkay s.field_count) (sym (get_or-set_same fs 0 blank no_frame b)) okay);
+              subst (λ q. FrameOkay (length s.ranges.items) (get_or (set fs 0 blank) q no_frame)) z
+              (subst (FrameOkay (length s.ranges.items)) (sym (get_or-set_same fs 0 blank no_frame b)) okay);
         },
         omega arith,
       )

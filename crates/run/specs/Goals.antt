@@ -16,7 +16,7 @@ use Rattle.sheet.specs.declared.node.Term.TheVariants.{Number}
 use Rattle.sheet.specs.declared.table.Sheet.{Sheet}
 use Rattle.sheet.specs.Table.{term_of, line_at, formula_at}
 use Rattle.sheet.specs.Keeping.{Within, size}
-use Rattle.sheet.specs.Sheets.{tree_of, sizes_of}
+use Rattle.sheet.specs.Sheets.{tree_of, sizes_of, lines_in}
 use Rattle.run.specs.declared.goal.Goal.{Goal}
 use Rattle.run.specs.declared.goal.Frame.{Frame}
 use Rattle.run.specs.declared.stack.Depth.{Depth}
@@ -113,9 +113,9 @@ stack s p = pending s p.goals p.frames p.depth.goals
 -- the goal's formula is one of a line of the sheet, and its frame is in use and has the parameters of that line
 pub record Stood (s : Sheet) (fs : List Frame) (used : ℕ) (g : Goal) : Type 0 where
   pub line : ℕ
-  pub within : Within s.rule_count s.lines line g.formula
+  pub within : Within (length s.rules.items) (lines_in s) line g.formula
   pub frame : g.frame < used
-  pub count : (slice_index_or fs g.frame no_frame).count ≡ (line_at s.lines line).params
+  pub count : (slice_index_or fs g.frame no_frame).count ≡ (line_at (lines_in s) line).params
 
 -- the lists hold what the stack says
 pub record Good (s : Sheet) (p : Spot) : Type 0 where
@@ -126,7 +126,7 @@ pub record Good (s : Sheet) (p : Spot) : Type 0 where
       (i : ℕ)
       → i < p.depth.goals
       → Stood s p.frames p.depth.frames (slice_index_or p.goals i no_goal)
-  pub okay : (i : ℕ) → i < p.depth.frames → FrameOkay s.field_count (slice_index_or p.frames i no_frame)
+  pub okay : (i : ℕ) → i < p.depth.frames → FrameOkay (length s.ranges.items) (slice_index_or p.frames i no_frame)
 
 -- the list of goals holds whatever the goals and the fuel can still ask for
 abbrev pub Fit : Sheet → Spot → Type 0
@@ -156,7 +156,7 @@ pub record Moves (s : Sheet) (gs : List Waiting) (n : ℕ) (S : Marks) (z : Way)
   pub took : Took z (Leads (rules_of (tree_of s)) gs n S (stack s p) p.depth.fuel P) y
   pub fit : Fit s p
   pub less : weight s (stack s p) p.depth.fuel < weight s gs n
-  pub alive : some s.field_count P ≡ true
+  pub alive : some (length s.ranges.items) P ≡ true
 
 -- what one turn comes to
 abbrev pub Turned : Sheet → List Waiting → ℕ → Marks → Way → Result Unit Stop → Spot → Marks → Way → Type 0

@@ -21,10 +21,10 @@ pub fn admit<S: Store>(
         (setting (tree_of sheet.now) fuel (S.width store.now) (S.starting store.now)) given
         (held lists.now) result }
 {
-    if store.fields() != sheet.field_count {
+    if store.fields() != sheet.field_count() {
         return Err(Refusal::FieldsDiffer);
     }
-    if !lists.are_long(fuel, sheet.field_count, given) {
+    if !lists.are_long(fuel, sheet.field_count(), given) {
         return Err(Refusal::ListTooShort);
     }
     Ok(())

@@ -22,7 +22,7 @@ pub(crate) fn along<S: Store, G: Guide>(
     frames: &mut [Frame],
     trail: &mut Trail<'_, G>,
 ) -> Result<[u16; 8], Stop>
-    requires fields { S.width store.old ≡ sheet.now.field_count }
+    requires fields { S.width store.old ≡ length sheet.now.ranges.items }
     requires goals { 16 * (fuel + 1) + 8 ≤ length goals.old }
     requires frames { fuel + 1 ≤ length frames.old }
     requires picks { 16 * (fuel + 1) + 8 ≤ length trail.old.picks.now }

@@ -42,6 +42,6 @@ pub fn draw<S: Store, R: Source>(
     };
     let end = along(sheet, store, fuel, lists.goals, lists.frames, &mut trail);
     let length = trail.at;
-    let ended = report(end, sheet.field_count, lists.mark);
+    let ended = report(end, sheet.field_count(), lists.mark);
     Ok(Drew { ended, length })
 }

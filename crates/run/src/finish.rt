@@ -1,5 +1,5 @@
 // The two ends of a run: the ranges kept at its beginning, and the fields settled at its end.
-ghost use Rattle.std.specs.Prelude.{◌≡◌, ℕ, ◌≤◌, true};
+ghost use Rattle.std.specs.Prelude.{◌≡◌, ℕ, ◌≤◌, true, length};
 ghost use Rattle.marks.specs.Counted.{some};
 ghost use Rattle.meaning.specs.Terms.{ranges_of};
 ghost use Rattle.meaning.specs.Runs.{inside};
@@ -19,14 +19,14 @@ use store::Store;
 
 // Begins a run: keeps each field's range, in field order. Whether any mark is left.
 pub(crate) fn begin<S: Store>(sheet: &Sheet, store: &mut S) -> bool
-    requires fields { S.width store.old ≡ sheet.now.field_count }
+    requires fields { S.width store.old ≡ length sheet.now.ranges.items }
     ensures same { Stays S.width S.starting store.old store.new }
     ensures left { S.current store.new ≡ inside (S.starting store.old)
         (ranges_of (tree_of sheet.now)) }
     ensures tells { result ≡ some (S.width store.new) (S.current store.new) }
 {
     store.restart();
-    for (field, range) in sheet.ranges[..sheet.field_count].iter().enumerate() {
+    for (field, range) in sheet.ranges.iter().enumerate() {
         let _ = store.keep(field, Comparison::AtLeast, range.low);
         let _ = store.keep(field, Comparison::AtMost, range.high);
     }

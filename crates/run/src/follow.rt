@@ -43,6 +43,6 @@ pub fn follow<S: Store>(
     if length < given {
         return Err(Refusal::TraceUnfit);
     }
-    let ended = report(end, sheet.field_count, lists.mark).ok_or(Refusal::TraceUnfit)?;
+    let ended = report(end, sheet.field_count(), lists.mark).ok_or(Refusal::TraceUnfit)?;
     Ok(Ran { ended, length })
 }

@@ -58,7 +58,7 @@ pub(crate) fn step<S: Store, G: Guide>(
     stack: &mut Stack<'_>,
     trail: &mut Trail<'_, G>,
 ) -> Result<(), Stop>
-    requires fields { S.width store.old ≡ sheet.now.field_count }
+    requires fields { S.width store.old ≡ length sheet.now.ranges.items }
     requires some { some (S.width store.old) (S.current store.old) ≡ true }
     requires fit { Fit sheet.now (spot_of stack.old) }
     requires more { 0 < stack.old.depth.goals }
@@ -105,7 +105,7 @@ pub(crate) fn step<S: Store, G: Guide>(
         }
         Node::Call(rule, count, terms) => {
             let passed = pass(store, frame, &terms[..count as usize], trail).ok_or(Stop::Halted)?;
-            stack.enter(passed, sheet.lines[rule as usize].body, goal.target)
+            stack.enter(passed, sheet.rules[rule as usize].body, goal.target)
         }
     }
 }

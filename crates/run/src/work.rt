@@ -25,7 +25,7 @@ pub(crate) fn work<S: Store, G: Guide>(
     frames: &mut [Frame],
     trail: &mut Trail<'_, G>,
 ) -> Result<(), Stop>
-    requires fields { S.width store.old ≡ sheet.now.field_count }
+    requires fields { S.width store.old ≡ length sheet.now.ranges.items }
     requires some { some (S.width store.old) (S.current store.old) ≡ true }
     requires goals { 16 * (fuel + 1) + 8 ≤ length goals.old }
     requires frames { fuel + 1 ≤ length frames.old }
@@ -39,7 +39,7 @@ pub(crate) fn work<S: Store, G: Guide>(
         (way_of G.ahead trail.old) result (S.current store.new) (way_of G.ahead trail.new) }
 {
     goals[0] = Goal {
-        formula: sheet.lines[sheet.rule_count].body,
+        formula: sheet.mark.body,
         target: true,
         frame: 0,
     };

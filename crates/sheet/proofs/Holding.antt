@@ -1,5 +1,5 @@
 -- The entries of a line hold formulas, each one only.
-use Rattle.std.proofs.Common.{◌≡◌, ℕ, zero, suc, ◌<◌, ◌≤◌, true, List, refl, ap, arith}
+use Rattle.std.proofs.Common.{◌≡◌, ℕ, zero, suc, ◌<◌, ◌≤◌, true, List, length, refl, ap, arith}
 use Rattle.std.proofs.lemmas.Bool.Decides.{nat_tests}
 use Rattle.formula.specs.Trees as tree
 use Rattle.sheet.specs.declared.node.Node.{Node}
@@ -8,7 +8,7 @@ use Rattle.sheet.specs.declared.node.Line.{Line}
 use Rattle.sheet.specs.declared.table.Sheet.{Sheet}
 use Rattle.sheet.specs.Table.{name_of, node_at, Holds, a_comparison, a_call, a_not, a_pick, a_join, whole, formula_within, formula_at, line_at}
 use Rattle.sheet.specs.Keeping.{entry_kept, Within}
-use Rattle.sheet.specs.Sheets.{EntriesHold}
+use Rattle.sheet.specs.Sheets.{lines_in, EntriesHold}
 
 -- what an entry holds is the formula of its number
 pub held_within :
@@ -71,8 +71,8 @@ module _ (nodes : List Node) (start body : ℕ) (parts : (i : ℕ) → start ≤
 pub entries_hold_lem : EntriesHold
 unfolding formula_at
 entries_hold_lem s l i w = (
-  holds_within s.nodes (line_at s.lines l).start (line_at s.lines l).body
-      (λ k from end. parts_of s.field_count s.rule_count s.lines l k _ (s.entries_kept l k (w.0, from, end)))
+  holds_within s.nodes (line_at (lines_in s) l).start (line_at (lines_in s) l).body
+      (λ k from end. parts_of (length s.ranges.items) (length s.rules.items) (lines_in s) l k _ (s.entries_kept l k (w.0, from, end)))
       256 i (omega (arith, s.lines_kept l w.0)) w.1 w.2,
   λ f h. held_within s.nodes 256 i f (omega (arith, s.lines_kept l w.0)) h,
 )
@@ -93,15 +93,15 @@ whole_same nodes start i same (Join j v w a b) p =
 
 -- an entry's formula is made of the formulas of its parts
 pub formula_step :
-    (s : Sheet) (l i : ℕ) → Within s.rule_count s.lines l i
+    (s : Sheet) (l i : ℕ) → Within (length s.rules.items) (lines_in s) l i
     → formula_at s.nodes i ≡ whole (formula_at s.nodes) (node_at s.nodes i)
 unfolding formula_at formula_within
 formula_step s l i w =
     let end = s.lines_kept l w.0 in
-    let parts : (k : ℕ) → (line_at s.lines l).start ≤ k → k ≤ (line_at s.lines l).body → Parts (line_at s.lines l).start k (node_at s.nodes k) =
-    λ k from to. parts_of s.field_count s.rule_count s.lines l k _ (s.entries_kept l k (w.0, from, to)) in
-    let same : (a : ℕ) → (line_at s.lines l).start ≤ a → a < i → formula_within 255 s.nodes a ≡ formula_within 256 s.nodes a =
+    let parts : (k : ℕ) → (line_at (lines_in s) l).start ≤ k → k ≤ (line_at (lines_in s) l).body → Parts (line_at (lines_in s) l).start k (node_at s.nodes k) =
+    λ k from to. parts_of (length s.ranges.items) (length s.rules.items) (lines_in s) l k _ (s.entries_kept l k (w.0, from, to)) in
+    let same : (a : ℕ) → (line_at (lines_in s) l).start ≤ a → a < i → formula_within 255 s.nodes a ≡ formula_within 256 s.nodes a =
     λ a from less.
     held_within s.nodes 256 a _ (omega (arith, end, w.2))
-    (holds_within s.nodes (line_at s.lines l).start (line_at s.lines l).body parts 255 a (omega (arith, end, w.2)) from (omega (arith, w.2))) in
-    whole_same s.nodes (line_at s.lines l).start i same (node_at s.nodes i) (parts i w.1 w.2)
+    (holds_within s.nodes (line_at (lines_in s) l).start (line_at (lines_in s) l).body parts 255 a (omega (arith, end, w.2)) from (omega (arith, w.2))) in
+    whole_same s.nodes (line_at (lines_in s) l).start i same (node_at s.nodes i) (parts i w.1 w.2)

@@ -1,5 +1,5 @@
 -- What every sheet keeps: limits, ranges, known names, calls with their number of terms, and parts before wholes.
-use Rattle.std.specs.Prelude.{◌≡◌, ℕ, ◌+◌, ◌<◌, ◌≤◌, max, Bool, true, ◌&&◌, List, [], ◌∷◌, length, take, ◌==◌, nat_le, nat_lt}
+use Rattle.std.specs.Prelude.{◌≡◌, ℕ, ◌+◌, ◌<◌, ◌≤◌, max, Bool, true, ◌&&◌, List, [], ◌∷◌, length, ◌==◌, nat_le, nat_lt}
 use Rattle.formula.specs.declared.Join.{Join as JoinWord}
 use Rattle.formula.specs.declared.Join.TheVariants.{And, Or}
 use Rattle.formula.specs.Trees.{Formula, compare, call, negate, pick, join}
@@ -13,7 +13,7 @@ use Rattle.sheet.specs.declared.node.Node.{Node}
 use Rattle.sheet.specs.declared.node.Node.TheVariants.{Compare, Call, Not, Pick, Join}
 use Rattle.sheet.specs.declared.node.Range.{Range}
 use Rattle.sheet.specs.declared.node.Line.{Line}
-use Rattle.sheet.specs.Table.{node_at, range_at, line_at, formula_at}
+use Rattle.sheet.specs.Table.{node_at, range_at, line_at, lines_of, formula_at}
 
 -- Counts over formulas
 
@@ -143,17 +143,17 @@ sizes nodes [] = 0
 sizes nodes (l ∷ lines) = size (formula_at nodes l.body) + sizes nodes lines
 
 -- there are at most 256 formulas in all
-abbrev pub FewFormulas : ℕ → List Line → List Node → Type 0
-FewFormulas rules lines nodes = sizes nodes (take rules lines) + size (formula_of lines nodes rules) ≤ 256
+abbrev pub FewFormulas : List Line → Line → List Node → Type 0
+FewFormulas rules mark nodes = sizes nodes rules + size (formula_at nodes mark.body) ≤ 256
 
 -- the parts of a sheet keep all of this
-pub record PartsKept (ranges : List Range) (fields : ℕ) (lines : List Line) (rules : ℕ) (nodes : List Node) : Type 0 where
-  pub some_fields : (1 ≤ fields) × (fields ≤ 8)
-  pub few_rules : rules ≤ 16
-  pub ranges_kept : RangesKept fields ranges
-  pub lines_kept : LinesKept rules lines
-  pub mark_plain : (line_at lines rules).params ≡ 0
-  pub entries_kept : EntriesKept fields rules lines nodes
-  pub few_joins : FewJoins rules lines nodes
-  pub shallow : Shallow rules lines nodes
-  pub few_formulas : FewFormulas rules lines nodes
+pub record PartsKept (ranges : List Range) (rules : List Line) (mark : Line) (nodes : List Node) : Type 0 where
+  pub some_fields : (1 ≤ length ranges) × (length ranges ≤ 8)
+  pub few_rules : length rules ≤ 16
+  pub ranges_kept : RangesKept (length ranges) ranges
+  pub lines_kept : LinesKept (length rules) (lines_of rules mark)
+  pub mark_plain : mark.params ≡ 0
+  pub entries_kept : EntriesKept (length ranges) (length rules) (lines_of rules mark) nodes
+  pub few_joins : FewJoins (length rules) (lines_of rules mark) nodes
+  pub shallow : Shallow (length rules) (lines_of rules mark) nodes
+  pub few_formulas : FewFormulas rules mark nodes

@@ -1,12 +1,12 @@
 -- A sheet by its meaning: the tree that the tables stand for, and the rules that every sheet keeps, over that tree.
-use Rattle.std.specs.Prelude.{◌≡◌, ℕ, suc, ◌+◌, ◌<◌, ◌≤◌, List, [], ◌∷◌, map, length, take, slice_index_or}
+use Rattle.std.specs.Prelude.{◌≡◌, ℕ, suc, ◌+◌, ◌<◌, ◌≤◌, List, [], ◌∷◌, map, length, slice_index_or}
 use Rattle.formula.specs.declared.Comparison.TheVariants.{Equal}
 use Rattle.formula.specs.Trees as tree
 use Rattle.sheet.specs.declared.node.Node.{Node}
 use Rattle.sheet.specs.declared.node.Range.{Range}
 use Rattle.sheet.specs.declared.node.Line.{Line}
 use Rattle.sheet.specs.declared.table.Sheet.{Sheet}
-use Rattle.sheet.specs.Table.{Holds, formula_at, mark_line}
+use Rattle.sheet.specs.Table.{Holds, formula_at, lines_of}
 use Rattle.sheet.specs.Keeping.{Within, size, joins, nested, alone}
 
 -- the range of a field
@@ -18,14 +18,17 @@ abbrev pub rule_of : List Node → Line → tree.Rule
 rule_of nodes l = tree.rule l.params (formula_at nodes l.body)
 
 -- the tree that the parts of a sheet stand for
-abbrev pub tree_of_parts : List Range → (fields : ℕ) → List Line → (rules : ℕ) → List Node → tree.Sheet
-tree_of_parts ranges fields lines rules nodes =
-    tree.sheet (map range_of (take fields ranges)) (map (rule_of nodes) (take rules lines))
-    (formula_at nodes (mark_line rules lines).body)
+abbrev pub tree_of_parts : List Range → List Line → Line → List Node → tree.Sheet
+tree_of_parts ranges rules mark nodes =
+    tree.sheet (map range_of ranges) (map (rule_of nodes) rules) (formula_at nodes mark.body)
 
 -- the tree that a sheet stands for
 unfoldable pub tree_of : Sheet → tree.Sheet
-tree_of s = tree_of_parts s.ranges s.field_count s.lines s.rule_count s.nodes
+tree_of s = tree_of_parts s.ranges.items s.rules.items s.mark s.nodes
+
+-- the lines of a sheet: the rules, and then the mark line
+abbrev pub lines_in : Sheet → List Line
+lines_in s = lines_of s.rules.items s.mark
 
 -- one field 0 to 0, and the mark that the two numbers are equal
 abbrev pub comparing_tree : ℕ → ℕ → tree.Sheet
@@ -127,6 +130,6 @@ EverySheetKeeps = (s : Sheet) → KeptSheet (tree_of s)
 abbrev pub EntriesHold : Type 0
 EntriesHold =
     (s : Sheet) (l i : ℕ)
-    → Within s.rule_count s.lines l i
+    → Within (length s.rules.items) (lines_in s) l i
     → Holds s.nodes i (formula_at s.nodes i)
     × ((f : tree.Formula) → Holds s.nodes i f → f ≡ formula_at s.nodes i)

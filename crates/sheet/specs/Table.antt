@@ -1,5 +1,5 @@
 -- What the entries of a sheet's table stand for: the formulas of the sheet, names aside.
-use Rattle.std.specs.Prelude.{◌≡◌, ℕ, zero, suc, ◌<◌, List, map, take, slice_index_or}
+use Rattle.std.specs.Prelude.{◌≡◌, ℕ, zero, suc, ◌<◌, List, [], ◌∷◌, ◌++◌, map, take, slice_index_or}
 use Rattle.formula.specs.declared.Comparison.{Comparison}
 use Rattle.formula.specs.declared.Comparison.TheVariants.{Equal}
 use Rattle.formula.specs.declared.Join.{Join as JoinWord}
@@ -39,13 +39,13 @@ node_at nodes i = slice_index_or nodes i (Compare (Number 0) Equal (Number 0))
 abbrev pub range_at : List Range → ℕ → Range
 range_at ranges i = slice_index_or ranges i (record { low = 0; high = 0 })
 
--- the line of that number: the rules, and then the mark line
+-- the line of that number
 abbrev pub line_at : List Line → ℕ → Line
 line_at lines l = slice_index_or lines l (record { params = 0; start = 0; body = 0 })
 
--- the mark line, which stands below so many rules
-abbrev pub mark_line : ℕ → List Line → Line
-mark_line rules lines = line_at lines rules
+-- all lines: the rules, and then the mark line
+abbrev pub lines_of : List Line → Line → List Line
+lines_of rules mark = rules ++ mark ∷ []
 
 -- Holds nodes i f: the entry i of the table holds the formula f, whose parts are held by entries before it
 pub data Holds (nodes : List Node) : ℕ → tree.Formula → Type 0 where

@@ -53,14 +53,14 @@ pub enum Node {
 }
 
 // The least and the greatest number of a field.
-#[derive(Clone, Copy, PartialEq, Eq, Debug)]
+#[derive(Clone, Copy, PartialEq, Eq, Debug, Default)]
 pub struct Range {
     pub low: u16,
     pub high: u16,
 }
 
 // A rule or the mark line: how many parameters it has, and its entries, from `start` to `body`, the whole formula.
-#[derive(Clone, Copy, PartialEq, Eq, Debug)]
+#[derive(Clone, Copy, PartialEq, Eq, Debug, Default)]
 pub struct Line {
     pub params: u8,
     pub start: u8,

@@ -1,5 +1,5 @@
 -- Spellings: what a token begins with, that one spelling is one token, and which is the longest.
-use Rattle.std.proofs.Common.{◌≡◌, ℕ, ◌<◌, ◌≤◌, Bool, true, false, cond, eqb, List, [], ◌∷◌, ◌++◌, length, get_or, Some, None, Option, sym, refl, ap, ◌∙◌, subst, ⊎_elim, arith}
+use Rattle.std.proofs.Common.{◌≡◌, ℕ, ◌<◌, ◌≤◌, Bool, true, false, cond, eqb, List, [], ◌∷◌, ◌++◌, length, get_or, sym, refl, ap, ◌∙◌, subst, ⊎_elim, arith}
 use Rattle.std.proofs.str.Laws.{order}
 use Rattle.std.proofs.lemmas.Bool.Decides.{nat_tests}
 use Rattle.std.proofs.ByRecursion.{All-get_or}
@@ -9,7 +9,6 @@ use Rattle.signs.specs.declared.token.Sign.{Sign}
 use Rattle.signs.specs.declared.token.Sign.TheVariants.{Open, Close, Comma, Semicolon, Colon, Plus, Minus, Compare}
 use Rattle.signs.specs.Bytes.{letter, digit, alphanumeric, blank, Only, value}
 use Rattle.signs.specs.Tokens.{Tok, word, number, sign, sign_bytes, Spells, a_word, a_number, a_sign, Takes}
-use Rattle.signs.specs.Scanning.{SpeltBy, LongestSign}
 
 pub clash : {b : Bool} → b ≡ true → b ≡ false → ⊥
 clash p q = let z : ◌≡◌ {A = ℕ} 0 1 = cc in omega arith
@@ -306,48 +305,3 @@ pub no_spelling :
     → Spells t w
     → ⊥
 no_spelling bytes nl nd none t w rest e p = let o = sign_only bytes w rest nl nd e p in none o.0 rest (e ∙ ap (λ l. l ++ rest) o.1)
-
--- the longest sign, from the signs of two bytes and of one
-
-pub two_first :
-    (b c : ℕ) (rest : List ℕ) (s : Sign)
-    → sign_bytes s ≡ b ∷ c ∷ []
-    → LongestSign (b ∷ c ∷ rest) (Some s)
-two_first b c rest s e =
-    (rest, ap (λ l. l ++ rest) (sym e), λ h more f. elim (sized h) [ single x p g ↦ omega (arith, ap length e, ap length g) | double x y p g ↦ omega (arith, ap length e, ap length g) ])
-
--- no sign of two bytes begins the bytes
-pub NoDouble : List ℕ → Type 0
-NoDouble bytes = (h : Sign) (b c : ℕ) (more : List ℕ) → sign_bytes h ≡ b ∷ c ∷ [] → bytes ≡ b ∷ c ∷ more → ⊥
-
-pub one_byte_left : (b : ℕ) → NoDouble (b ∷ [])
-unfolding NoDouble
-one_byte_left b h a c more e f = omega (arith, ap length f)
-
-pub no_double : (b c : ℕ) (rest : List ℕ) → ((h : Sign) → sign_bytes h ≡ b ∷ c ∷ [] → ⊥) → NoDouble (b ∷ c ∷ rest)
-unfolding NoDouble
-no_double b c rest none h b' c' more e f =
-    let g : b ≡ b' = cc in
-    let k : c ≡ c' = cc in
-    let m : sign_bytes h ≡ b ∷ c ∷ [] = cc in
-    none h m
-
-pub one_first :
-    (b : ℕ) (rest : List ℕ) (r : Option Sign)
-    → NoDouble (b ∷ rest)
-    → SpeltBy (b ∷ []) r
-    → LongestSign (b ∷ rest) r
-unfolding NoDouble
-one_first b rest (Some s) single_only e = (
-  rest,
-  ap (λ l. l ++ rest) (sym e),
-  λ h more f. elim (sized h) [
-    | single x p g ↦ omega (arith, ap length e, ap length g)
-    | double x y p g ↦ absurd (single_only h x y more g (f ∙ ap (λ l. l ++ more) g))
-  ],
-)
-one_first b rest None single_only none = λ h more f.
-    elim (sized h) [
-      | single x p g ↦ none h (let k : b ∷ rest ≡ x ∷ more = f ∙ ap (λ l. l ++ more) g in let z : b ≡ x = cc in cc)
-      | double x y p g ↦ single_only h x y more g (f ∙ ap (λ l. l ++ more) g)
-    ]

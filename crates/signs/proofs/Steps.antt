@@ -1,15 +1,18 @@
 -- From what stands at a place to what comes next in the text.
-use Rattle.std.proofs.Common.{◌≡◌, ℕ, ◌+◌, ◌≤◌, List, [], ◌∷◌, ◌++◌, length, drop, Ok, Err, sym, ap, ◌∙◌, subst, arith}
-use Rattle.std.proofs.lemmas.List.{drop_all}
+use Rattle.std.proofs.Common.{◌≡◌, ℕ, ◌+◌, ◌-◌, ◌<◌, ◌≤◌, List, [], ◌∷◌, ◌++◌, length, get_or, take, drop, false, Result, Ok, Err, refl, sym, ap, ◌∙◌, subst, arith}
+use Rattle.std.proofs.lemmas.List.{drop_all, drop-drop, get_or-drop, length-drop, length-take-le}
+use Rattle.std.specs.List.{take_while}
 use Rattle.refusal.specs.declared.Fault.{Fault}
+use Rattle.refusal.specs.declared.Refusal.{Refusal}
 use Rattle.refusal.specs.Table as table
+use Rattle.signs.specs.declared.cut.Leading.{Leading}
 use Rattle.signs.specs.declared.token.Placed.{Placed}
 use Rattle.signs.specs.Bytes.{blank, Only}
-use Rattle.signs.specs.Tokens.{TokAt, at}
+use Rattle.signs.specs.Tokens.{TokAt, at, Takes, Within}
 use Rattle.signs.specs.Cutting.{Cut, stop, gap, token, FaultHere}
 use Rattle.signs.specs.Answers.{spelt, placed, NextToken, NoToken, NextFault}
-use Rattle.signs.specs.Scanning.{part, Run, Stands}
-use Rattle.signs.proofs.Scans.{run_front, length_part}
+use Rattle.signs.specs.Scanning.{part, Leads}
+use Rattle.signs.proofs.Scans.{front_at, front_within, length_part, part_last}
 use Rattle.signs.proofs.Once.{Ends, at_end, at_fault, gap_back, token_back, cut_once, fault_some}
 
 moved : {p q : ℕ} {bytes rest : List ℕ} {ts : List TokAt} → p ≡ q → Cut p bytes ts rest → Cut q bytes ts rest
@@ -38,15 +41,42 @@ pub record Reached (text : List ℕ) (p b : ℕ) : Type 0 where
   pub on : (ts : List TokAt) (rest : List ℕ) → Cut b (drop b text) ts rest → Cut p (drop p text) ts rest
   pub back : (ts : List TokAt) (rest : List ℕ) → Ends rest → Cut p (drop p text) ts rest → Cut b (drop b text) ts rest
 
-pub reached : {text : List ℕ} {p b : ℕ} → Run blank text p b → Reached text p b
-reached {text} {p} {b} run =
-    let f = run_front run in
-    let n : p + length (part text p b) ≡ b = omega (arith, length_part text p b run.from run.within, run.from) in
+pub reached :
+    (text : List ℕ) (p n : ℕ)
+    → p ≤ length text
+    → n ≡ length (take_while blank (part text p (length text)))
+    → Reached text p (p + n)
+reached text p n h counted =
+    let bytes = drop p text in
+    let here = counted ∙ ap (λ l. length (take_while blank l)) (part_last text p) in
+    let f = front_at blank bytes n here in
+    let gap = take n bytes in
+    let after = drop-drop n p text in
+    let far : p + length gap ≡ p + n = omega (arith, length-take-le n bytes (front_within blank bytes n here)) in
     record {
-      from = run.from;
-      on = λ ts rest c. subst (λ l. Cut p l ts rest) (sym f.split) (gaps_on (part text p b) f.all (moved (sym n) c));
-      back = λ ts rest e c. moved n (gaps_back (part text p b) f.all e (subst (λ l. Cut p l ts rest) f.split c));
+      from = omega arith;
+      on = λ ts rest c.
+          let d = subst (λ l. Cut (p + n) l ts rest) (sym after) c in
+          subst (λ l. Cut p l ts rest) (sym f.split) (gaps_on gap f.all (moved (sym far) d));
+      back = λ ts rest e c.
+          let d = moved far (gaps_back gap f.all e (subst (λ l. Cut p l ts rest) f.split c)) in
+          subst (λ l. Cut (p + n) l ts rest) after d;
     }
+
+-- the byte that blanks lead to is none
+pub solid_there :
+    (text : List ℕ) (p n : ℕ)
+    → n ≡ length (take_while blank (part text p (length text)))
+    → p + n < length text
+    → blank (get_or (part text (p + n) (length text)) 0 0) ≡ false
+solid_there text p n counted more =
+    let bytes = drop p text in
+    let here = counted ∙ ap (λ l. length (take_while blank l)) (part_last text p) in
+    let long = length-take-le n bytes (front_within blank bytes n here) in
+    let at_n : n + 0 ≡ length (take n bytes) = omega (arith, long) in
+    ap (λ l. blank (get_or l 0 0)) (part_last text (p + n) ∙ sym (drop-drop n p text))
+    ∙ ap blank (get_or-drop n bytes 0 0 ∙ ap (λ k. get_or bytes k 0) at_n)
+    ∙ (front_at blank bytes n here).stops (omega (arith, long, length-drop p text))
 
 -- the end of the text
 pub no_token : (text : List ℕ) (p b : ℕ) → Reached text p b → length text ≤ b → NoToken text p
@@ -61,9 +91,36 @@ here text p h = record { from = omega arith; on = λ ts rest c. c; back = λ ts 
 pub past_end : (text : List ℕ) (p : ℕ) → length text ≤ p → NoToken text p
 past_end text p h = no_token text p p (here text p h) h
 
+-- the token that stands at place p, or the fault there
+abbrev Stands : List ℕ → ℕ → Result Placed Fault → Type 0
+Stands text p (Ok t) =
+    (t.place ≡ p)
+    × (t.end ≤ length text)
+    × (p < t.end)
+    × Takes (drop p text) (spelt t.token) (part text p t.end) (drop t.end text)
+    × Within (spelt t.token) (part text p t.end)
+Stands text p (Err f) = (f.place ≡ p) × FaultHere (drop p text) (table.number f.refusal)
+
+-- what leads the rest of the text stands in the text
+stands : (text : List ℕ) (b : ℕ) (l : Leading) → b ≤ length text → Leads (part text b (length text)) (Ok l)
+    → Stands text b (Ok (record { token = l.token; place = b; end = b + l.size }))
+stands text b l h leads =
+    let k = subst (λ x. Leads x (Ok l)) (part_last text b) leads in
+    let bytes = drop b text in
+    let same : l.size ≡ b + l.size - b = omega arith in
+    let w : take l.size bytes ≡ part text b (b + l.size) = ap (λ n. take n bytes) same in
+    let long = length-drop b text in (
+      refl,
+      omega (arith, long, k.0),
+      omega (arith, k.1),
+      subst (λ v. Takes bytes (spelt l.token) v (drop (b + l.size) text)) w
+          (subst (λ r. Takes bytes (spelt l.token) (take l.size bytes) r) (drop-drop l.size b text) k.2),
+      subst (Within (spelt l.token)) w k.3,
+    )
+
 -- what stands at the place that blanks lead to
-pub token_follows : (text : List ℕ) (p b : ℕ) (t : Placed) → Reached text p b → Stands text b (Ok t) → NextToken text p t
-token_follows text p b t r s =
+stands_follows : (text : List ℕ) (p b : ℕ) (t : Placed) → Reached text p b → Stands text b (Ok t) → NextToken text p t
+stands_follows text p b t r s =
     let n : b + length (part text b t.end) ≡ t.end = omega (arith, length_part text b t.end (omega (arith, s.2)) s.1, s.2) in
     let put : (ts : List TokAt) (rest : List ℕ) → Cut t.end (drop t.end text) ts rest → Cut p (drop p text) (placed t ∷ ts) rest =
     λ ts rest c. r.on (placed t ∷ ts) rest
@@ -80,12 +137,25 @@ token_follows text p b t r s =
       refused = λ m q x. record { before = placed t ∷ x.before; cut = put x.before (drop q text) x.cut; fault = x.fault };
     }
 
-pub fault_follows : (text : List ℕ) (p b : ℕ) (f : Fault) → Reached text p b → Stands text b (Err f) → NextFault text p f
-fault_follows text p b f r s =
-    let m = table.number f.refusal in
-    let fault = subst (λ k. FaultHere (drop k text) m) (sym s.0) s.1 in
-    let cut = subst (λ k. Cut p (drop p text) [] (drop k text)) (sym s.0) (r.on [] (drop b text) stop) in
-    record {
+pub token_follows :
+    (text : List ℕ) (p b : ℕ) (l : Leading)
+    → Reached text p b
+    → b ≤ length text
+    → Leads (part text b (length text)) (Ok l)
+    → NextToken text p (record { token = l.token; place = b; end = b + l.size })
+token_follows text p b l r h leads = stands_follows text p b _ r (stands text b l h leads)
+
+pub fault_follows :
+    (text : List ℕ) (p b : ℕ) (f : Fault) (e : Refusal)
+    → f ≡ record { place = b; refusal = e }
+    → Reached text p b
+    → Leads (part text b (length text)) (Err e)
+    → NextFault text p f
+fault_follows text p b f e is r leads =
+    let m = table.number e in
+    let fault = subst (λ x. FaultHere x m) (part_last text b) leads in
+    let cut = r.on [] (drop b text) stop in
+    rw is (record {
       refused = record { before = []; cut = cut; fault = fault };
       uncut = λ ts c. omega (arith, ap length (cut_once c at_end cut (at_fault fault)).1, fault_some fault);
-    }
+    })

@@ -1,8 +1,9 @@
 // Classes of bytes, and how far a run of one class goes.
-ghost use Rattle.std.specs.Prelude.{◌≡◌, ◌≤◌, length};
+ghost use Rattle.std.specs.Prelude.{◌≡◌, length};
 ghost use Rattle.std.specs.List.{take_while};
-ghost use Rattle.signs.specs.Scanning.{has, Run};
+ghost use Rattle.signs.specs.Scanning.{has};
 
+// An enum and no closure of a byte, since the contracts name a class's test by `has`.
 #[derive(Clone, Copy)]
 pub(crate) enum Class {
     Blank,
@@ -23,16 +24,8 @@ impl Class {
         }
     }
 
-    // Where the bytes of this class that begin at `from` end.
-    pub(crate) fn run_end(self, text: &[u8], from: usize) -> usize
-        requires { from ≤ length text.now }
-        ensures { Run (has self) text.now from result }
-    {
-        from + self.front(&text[from..])
-    }
-
     // How many bytes of this class the text begins with.
-    fn front(self, text: &[u8]) -> usize
+    pub(crate) fn front(self, text: &[u8]) -> usize
         ensures { result ≡ length (take_while (has self) text.now) }
     {
         text.iter().take_while(|byte| self.has(**byte)).count()

@@ -29,17 +29,17 @@ impl TokenCounts {
     }
 }
 
+// The most bytes that a text has.
+const LONGEST_TEXT: usize = 32768;
+
 // The counts of the text's tokens, or the first refusal of the text.
 pub fn survey(text: &[u8]) -> Result<TokenCounts, Fault>
     ensures found { Surveyed text.now result }
     ensures one_verdict { OneVerdict text.now }
     ensures put_together { PutTogether text.now }
 {
-    if text.len() > 32768 {
-        return Err(Fault {
-            refusal: Refusal::TextTooLong,
-            place: 32768,
-        });
+    if text.len() > LONGEST_TEXT {
+        return Err(Refusal::TextTooLong.at(LONGEST_TEXT));
     }
     let mut found = TokenCounts::default();
     let mut at = 0;

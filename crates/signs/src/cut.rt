@@ -1,10 +1,9 @@
 // The token that comes next in a text.
-ghost use Rattle.std.specs.Prelude.{◌≡◌, ◌+◌, ◌<◌, ◌≤◌, true, false, [], ◌∷◌, length, drop, slice_index};
-ghost use Rattle.refusal.specs.declared.Refusal.TheVariants.{OverLimit};
+ghost use Rattle.std.specs.Prelude.{◌≡◌, ◌<◌, ◌≤◌, true, false, length, slice_index};
 ghost use Rattle.signs.specs.Bytes.{letter, digit, blank, value, Only};
 ghost use Rattle.signs.specs.Tokens.{sign_bytes};
 ghost use Rattle.signs.specs.Answers.{Follows};
-ghost use Rattle.signs.specs.Scanning.{SpeltBy, LongestSign, Stands};
+ghost use Rattle.signs.specs.Scanning.{Leads, LongestSign};
 
 use crate::byte::Class;
 use crate::token::{Placed, Sign, Token};
@@ -18,141 +17,122 @@ pub fn next<'a>(text: &'a [u8], from: usize) -> Result<Option<Placed<'a>>, Fault
     if from >= text.len() {
         return Ok(None);
     }
-    let place = Class::Blank.run_end(text, from);
+    let place = from + Class::Blank.front(&text[from..]);
     if place >= text.len() {
         return Ok(None);
     }
-    Ok(Some(stands(text, place)?))
+    match first_token(&text[place..]) {
+        Ok(Leading { token, size }) => Ok(Some(Placed {
+            token,
+            place,
+            end: place + size,
+        })),
+        Err(refusal) => Err(refusal.at(place)),
+    }
 }
 
-// The token or the fault at a byte that is no blank.
-fn stands<'a>(text: &'a [u8], place: usize) -> Result<Placed<'a>, Fault>
-    requires inside { place < length text.now }
-    requires solid { blank (slice_index text.now place) ≡ false }
-    ensures { Stands text.now place result }
+// The token that some bytes begin with, and how many of them spell it.
+#[derive(Clone, Copy)]
+struct Leading<'a> {
+    token: Token<'a>,
+    size: usize,
+}
+
+// The token that the bytes begin with, where no blank is first.
+fn first_token<'a>(bytes: &'a [u8]) -> Result<Leading<'a>, Refusal>
+    requires some { 0 < length bytes.now }
+    requires solid { blank (slice_index bytes.now 0) ≡ false }
+    ensures { Leads bytes.now result }
 {
-    let byte = text[place];
-    if Class::Letter.has(byte) {
-        word(text, place)
-    } else if Class::Digit.has(byte) {
-        number(text, place)
+    let first = bytes[0];
+    if Class::Letter.has(first) {
+        word(bytes)
+    } else if Class::Digit.has(first) {
+        number(bytes)
     } else {
-        sign(text, place)
+        sign(bytes)
     }
 }
 
-fn word<'a>(text: &'a [u8], place: usize) -> Result<Placed<'a>, Fault>
-    requires inside { place < length text.now }
-    requires begins { letter (slice_index text.now place) ≡ true }
-    ensures { Stands text.now place result }
+// Not one function with `number`: that would take the class, the limit and the making of the token as parameters,
+// and a number has a second limit, on its value.
+fn word<'a>(bytes: &'a [u8]) -> Result<Leading<'a>, Refusal>
+    requires some { 0 < length bytes.now }
+    requires begins { letter (slice_index bytes.now 0) ≡ true }
+    ensures { Leads bytes.now result }
 {
-    let end = Class::Alphanumeric.run_end(text, place);
-    if end - place > 16 {
-        return Err(over_limit(place));
+    let size = Class::Alphanumeric.front(bytes);
+    if size > 16 {
+        return Err(Refusal::OverLimit);
     }
-    let token = Token::Word(&text[place..end]);
-    Ok(Placed { token, place, end })
+    let token = Token::Word(&bytes[..size]);
+    Ok(Leading { token, size })
 }
 
-fn number<'a>(text: &'a [u8], place: usize) -> Result<Placed<'a>, Fault>
-    requires inside { place < length text.now }
-    requires begins { digit (slice_index text.now place) ≡ true }
-    ensures { Stands text.now place result }
+fn number<'a>(bytes: &'a [u8]) -> Result<Leading<'a>, Refusal>
+    requires some { 0 < length bytes.now }
+    requires begins { digit (slice_index bytes.now 0) ≡ true }
+    ensures { Leads bytes.now result }
 {
-    let end = Class::Digit.run_end(text, place);
-    if end - place > 4 {
-        return Err(over_limit(place));
+    let size = Class::Digit.front(bytes);
+    if size > 4 {
+        return Err(Refusal::OverLimit);
     }
-    let n = decimal(&text[place..end]);
-    if n > 1023 {
-        return Err(over_limit(place));
+    let value = decimal(&bytes[..size]);
+    if value > 1023 {
+        return Err(Refusal::OverLimit);
     }
-    let token = Token::Number(n);
-    Ok(Placed { token, place, end })
+    let token = Token::Number(value);
+    Ok(Leading { token, size })
 }
 
-fn over_limit(place: usize) -> Fault
-    ensures { result ≡ record { refusal = OverLimit; place = place } }
-{
-    Fault {
-        refusal: Refusal::OverLimit,
-        place,
-    }
-}
-
-// The number that the digits write.
+// The number that the digits write. A loop and no fold: that a step fits 16 bits rests on how many digits came
+// before, which the closure of a fold does not see.
 fn decimal(digits: &[u8]) -> u16
     requires digits { Only digit digits.now }
     requires few { length digits.now ≤ 4 }
     ensures { result ≡ value digits.now }
 {
-    let mut n: u16 = 0;
+    let mut number: u16 = 0;
     for byte in digits {
-        n = n * 10 + u16::from(*byte - b'0');
+        number = number * 10 + u16::from(*byte - b'0');
     }
-    n
+    number
 }
 
-fn sign<'a>(text: &'a [u8], place: usize) -> Result<Placed<'a>, Fault>
-    requires inside { place < length text.now }
-    requires solid { blank (slice_index text.now place) ≡ false }
-    requires wordless { letter (slice_index text.now place) ≡ false }
-    requires numberless { digit (slice_index text.now place) ≡ false }
-    ensures { Stands text.now place result }
+fn sign<'a>(bytes: &'a [u8]) -> Result<Leading<'a>, Refusal>
+    requires some { 0 < length bytes.now }
+    requires solid { blank (slice_index bytes.now 0) ≡ false }
+    requires wordless { letter (slice_index bytes.now 0) ≡ false }
+    requires numberless { digit (slice_index bytes.now 0) ≡ false }
+    ensures { Leads bytes.now result }
 {
-    let sign = longest_sign(text, place).ok_or(Fault {
-        refusal: Refusal::ByteNotPermitted,
-        place,
-    })?;
-    let end = place + sign.size();
+    let sign = longest_sign(bytes).ok_or(Refusal::ByteNotPermitted)?;
+    let size = sign.size();
     let token = Token::Sign(sign);
-    Ok(Placed { token, place, end })
+    Ok(Leading { token, size })
 }
 
-fn longest_sign(text: &[u8], place: usize) -> Option<Sign>
-    requires { place < length text.now }
-    ensures { LongestSign (drop place text.now) result }
+// The longest sign that the bytes begin with, or none.
+fn longest_sign(bytes: &[u8]) -> Option<Sign>
+    ensures { LongestSign bytes.now result }
 {
-    if text.len() - place > 1 {
-        if let Some(s) = double(text[place], text[place + 1]) {
-            return Some(s);
-        }
-    }
-    single(text[place])
-}
-
-// The sign that is spelt by one byte. An Option and no TryFrom, since a byte that spells none is no error yet.
-fn single(byte: u8) -> Option<Sign>
-    ensures { SpeltBy (byte ∷ []) result }
-{
-    match byte {
-        b'(' => Some(Sign::Open),
-        b')' => Some(Sign::Close),
-        b',' => Some(Sign::Comma),
-        b';' => Some(Sign::Semicolon),
-        b':' => Some(Sign::Colon),
-        b'+' => Some(Sign::Plus),
-        b'-' => Some(Sign::Minus),
-        b'=' => Some(Sign::Compare(Comparison::Equal)),
-        b'<' => Some(Sign::Compare(Comparison::Less)),
-        b'>' => Some(Sign::Compare(Comparison::More)),
-        _ => None,
-    }
-}
-
-// The sign that is spelt by two bytes.
-fn double(first: u8, second: u8) -> Option<Sign>
-    ensures { SpeltBy (first ∷ second ∷ []) result }
-{
-    if second != b'=' {
-        return None;
-    }
-    match first {
-        b'/' => Some(Sign::Compare(Comparison::Differ)),
-        b'<' => Some(Sign::Compare(Comparison::AtMost)),
-        b'>' => Some(Sign::Compare(Comparison::AtLeast)),
-        _ => None,
-    }
+    Some(match bytes {
+        [b'/', b'=', ..] => Sign::Compare(Comparison::Differ),
+        [b'<', b'=', ..] => Sign::Compare(Comparison::AtMost),
+        [b'>', b'=', ..] => Sign::Compare(Comparison::AtLeast),
+        [b'=', ..] => Sign::Compare(Comparison::Equal),
+        [b'<', ..] => Sign::Compare(Comparison::Less),
+        [b'>', ..] => Sign::Compare(Comparison::More),
+        [b'(', ..] => Sign::Open,
+        [b')', ..] => Sign::Close,
+        [b',', ..] => Sign::Comma,
+        [b';', ..] => Sign::Semicolon,
+        [b':', ..] => Sign::Colon,
+        [b'+', ..] => Sign::Plus,
+        [b'-', ..] => Sign::Minus,
+        _ => return None,
+    })
 }
 
 impl Sign {

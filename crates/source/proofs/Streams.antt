@@ -1,5 +1,5 @@
 -- How long a stream is, how large its numbers are, and how it goes on.
-use Rattle.std.proofs.Common.{◌≡◌, ℕ, zero, suc, ◌-◌, ◌%◌, ◌^◌, ◌<◌, ◌≤◌, ◌∷◌, length, take, refl, ap, arith}
+use Rattle.std.proofs.Common.{◌≡◌, ℕ, zero, suc, ◌%◌, ◌^◌, ◌<◌, ◌≤◌, ◌∷◌, length, take, refl, ap, arith}
 use Rattle.std.specs.List.{AllByRecursion}
 use Rattle.std.proofs.lemmas.Nat.{mod_below}
 use Rattle.source.specs.Xorshift.{xorshift, stream, Streams}
@@ -25,10 +25,3 @@ streams s n = record {
   small = small_stream s n;
   begins = λ m h. take_stream s m n h;
 }
-
--- the first number of a stream, and the stream of what is left
-pub stream_next : (s n : ℕ) → 0 < n → stream s n ≡ xorshift s % 2 ^ 32 ∷ stream (xorshift s) (n - 1)
-stream_next s zero h = absurd (omega arith)
-stream_next s (suc n) h =
-    let e : n ≡ suc n - 1 = omega arith in
-    ap (λ m. xorshift s % 2 ^ 32 ∷ stream (xorshift s) m) e

@@ -1,5 +1,5 @@
 // A source that makes its numbers from a seed.
-ghost use Rattle.std.specs.Prelude.{◌≡◌, ◌<◌, [], ◌∷◌};
+ghost use Rattle.std.specs.Prelude.{◌≡◌, ◌%◌, ◌^◌, [], ◌∷◌};
 ghost use Rattle.source.specs.Sources.{in_seeded, Made};
 ghost use Rattle.source.specs.Xorshift.{xorshift, stream, Streams, SeedOne};
 
@@ -7,7 +7,7 @@ use crate::Source;
 use refusal::Refusal;
 
 // The state of the generator, and how many numbers it still gives.
-#[derive(Drop)]
+#[derive(Debug, PartialEq, Eq, Drop)]
 pub struct Seeded {
     state: u64,
     left: u32,
@@ -37,12 +37,11 @@ impl Seeded {
         }
     }
 
-    // Makes the next number.
+    // Moves the state on, and answers the number that it then gives.
     fn advance(&mut self) -> u32
-        requires { 0 < self.old.left }
-        ensures { in_seeded self.old ≡ result ∷ in_seeded self.new }
+        ensures next { result ≡ xorshift self.old.state % 2 ^ 32 }
+        ensures state { self.new ≡ record { state = xorshift self.old.state; left = self.old.left } }
     {
-        self.left -= 1;
         self.state = step(self.state);
         (self.state & 0xffff_ffff) as u32
     }
@@ -52,20 +51,18 @@ impl Seeded {
 fn step(state: u64) -> u64
     ensures { result ≡ xorshift state }
 {
-    let mut x = state;
-    x ^= x << 13;
-    x ^= x >> 7;
-    x ^= x << 17;
-    x
+    let mut next = state;
+    next ^= next << 13;
+    next ^= next >> 7;
+    next ^= next << 17;
+    next
 }
 
 impl Source for Seeded {
     ghost waiting = { in_seeded };
 
     fn take(&mut self) -> Option<u32> {
-        if self.left == 0 {
-            return None;
-        }
+        self.left = self.left.checked_sub(1)?;
         Some(self.advance())
     }
 }

@@ -5,7 +5,7 @@ ghost use Rattle.source.specs.Sources.{on_tape};
 use crate::Source;
 
 // The rest of a tape: the numbers that were not taken.
-#[derive(Drop)]
+#[derive(Debug, PartialEq, Eq, Drop)]
 pub struct Tape<'a> {
     numbers: &'a [u32],
 }

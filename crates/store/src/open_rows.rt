@@ -1,5 +1,5 @@
 // The open store is a store: keep narrows the row of its field.
-ghost use Rattle.std.specs.Prelude.{◌≡◌, ◌≤◌, take};
+ghost use Rattle.std.specs.Prelude.{◌≡◌, ◌≤◌, take, length};
 ghost use Rattle.store.specs.Rules.{TellsEmpty};
 ghost use Rattle.store.specs.Opens.{HasEvery, open_start, open_left};
 ghost use Rattle.store.specs.TakenRows.{LendsTaken};
@@ -15,11 +15,11 @@ use sheet::table::Sheet;
 impl OpenStore {
     // The open store of a sheet's fields, with every mark.
     pub fn new(sheet: &Sheet) -> OpenStore
-        ensures fields { result.width ≡ sheet.now.field_count }
-        ensures starts { HasEvery sheet.now.field_count (open_start result) }
+        ensures fields { result.width ≡ length sheet.now.ranges.items }
+        ensures starts { HasEvery (length sheet.now.ranges.items) (open_start result) }
         ensures left { open_left result ≡ open_start result }
     {
-        OpenStore::with_every_mark(sheet.field_count)
+        OpenStore::with_every_mark(sheet.field_count())
     }
 
     // The open store of so many fields, with every mark.

@@ -8,6 +8,9 @@ use refusal::Refusal;
 use std::io;
 use std::io::{Read, Write};
 
+// Room for the text of a sheet: one byte more than it may have, enough to see that it is too long.
+pub const TEXT_ROOM: usize = 32769;
+
 // Fills the buffer from its front until the input ends or the buffer is full, and answers how many bytes came,
 // as `Read::read` does: no slice of the buffer, which the caller has already.
 pub fn fill<R: Read>(input: &mut R, buffer: &mut [u8]) -> io::Result<usize>

@@ -10,9 +10,7 @@ fn holds(
     buffer: &[u8],
     line: &[u8],
 ) -> Result<(), Fail> {
-    let Ok(length) = made else {
-        return Err(Fail::new("a line"));
-    };
+    let length = made.map_err(|_| Fail::new("a line"))?;
     assert!(rt; length <= buffer.len());
     assert!(rt; &buffer[0..length] == line);
     for byte in &buffer[length..buffer.len()] {
@@ -23,9 +21,7 @@ fn holds(
 
 // The buffer is one byte short, and as it was.
 fn short(rt: &impl Abort, made: Result<usize, Refusal>, buffer: &[u8]) -> Result<(), Fail> {
-    let Err(refusal) = made else {
-        return Err(Fail::new("a refusal"));
-    };
+    let refusal = made.err().ok_or_else(|| Fail::new("a refusal"))?;
     assert!(rt; refusal.number() == 19);
     for byte in buffer {
         assert!(rt; *byte == b'.');

@@ -16,26 +16,19 @@ fn gives<S: Source>(rt: &impl Abort, from: &mut S, numbers: &[u32]) {
 
 #[test]
 fn seeds(rt: HostRuntime) -> Result<(), Fail> {
-    let Ok(mut one) = Seeded::new(1, 5) else {
-        return Err(Fail::new("seed 1"));
-    };
+    let mut one = Seeded::new(1, 5).map_err(|_| Fail::new("seed 1"))?;
     gives(
         &rt,
         &mut one,
         &[1082269761, 201397313, 1854285353, 1432191013, 2421789285],
     );
-    let Ok(mut most) = Seeded::new(u64::MAX, 3) else {
-        return Err(Fail::new("the largest seed"));
-    };
+    let mut most = Seeded::new(u64::MAX, 3).map_err(|_| Fail::new("the largest seed"))?;
     gives(&rt, &mut most, &[1065361344, 67039231, 3330084320]);
     Ok(())
 }
 
 fn refused(seed: u64, count: u64) -> bool {
-    match Seeded::new(seed, count) {
-        Ok(_) => false,
-        Err(refusal) => refusal.number() == 18,
-    }
+    Seeded::new(seed, count).is_err_and(|refusal| refusal.number() == 18)
 }
 
 #[test]

@@ -12,8 +12,6 @@ pub(crate) const REGISTERED: &[u8] = b"field box 0 9 ; field item 0 9 ; mark box
 // The sheet that a text spells.
 pub(crate) fn spelt(text: &[u8]) -> Result<Sheet, Fail> {
     let mut sheet = Sheet::blank();
-    match names::read(text, &mut sheet) {
-        Ok(_) => Ok(sheet),
-        Err(_) => Err(Fail::new("a sheet")),
-    }
+    names::read(text, &mut sheet).map_err(|_| Fail::new("a sheet"))?;
+    Ok(sheet)
 }

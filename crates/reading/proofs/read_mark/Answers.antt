@@ -1,4 +1,7 @@
-use Rattle.std.proofs.Common.{sym, ◌∙◌, arith}
+use Rattle.std.proofs.Common.{◌≡◌, length, sym, ap, ◌∙◌, arith}
+use Rattle.sheet.specs.Table.{line_at}
+use Rattle.sheet.specs.Sheets.{lines_in}
+use Rattle.sheet.proofs.Lines.{mark_in_lines}
 use Rattle.reading.proofs.Marks.{fields_counted, checks_out, checks_in}
 use Rattle.reading.proofs.read_mark.Goals as goal
 
@@ -11,11 +14,18 @@ returns-then-not-in_ranges c =
 
 pub read-result-requires : goal.read-result-requires
 read-result-requires c =
-    let line = c.args.sheet.now.lines_kept c.args.sheet.now.rule_count (omega arith) in
+    let s = c.args.sheet.now in
+    let n = c.len-line.ensures.value in
+    let line = s.lines_kept (length s.rules.items) (omega arith) in
+    let at : line_at (lines_in s) c.len-line.result ≡ s.mark = ap (line_at (lines_in s)) n ∙ mark_in_lines s.rules.items s.mark in
     record {
-      within = (omega arith, line.1, omega arith);
-      fields = c.requires.0 ∙ fields_counted c.args.sheet.now;
-      params = sym c.args.sheet.now.mark_plain;
+      within = (
+        omega (arith, n),
+        omega (arith, line.1, ap (λ l. l.start) at, ap (λ l. l.body) (mark_in_lines s.rules.items s.mark), ap (λ l. l.start) (mark_in_lines s.rules.items s.mark)),
+        omega (arith, ap (λ l. l.body) at),
+      );
+      fields = c.requires.0 ∙ fields_counted s;
+      params = sym (ap (λ l. l.params) at ∙ s.mark_plain);
     }
 
 pub returns : goal.returns

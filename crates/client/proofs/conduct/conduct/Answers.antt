@@ -2,9 +2,9 @@ use Rattle.std.proofs.Common.{◌+◌, take, drop, sym, refl, ◌∙◌, arith, 
 use Rattle.std.proofs.lemmas.List.{take_all}
 use Rattle.sheet.specs.Sheets.{tree_of}
 use Rattle.sheet.proofs.Keeps.{every_sheet_keeps_lem}
-use Rattle.client.proofs.Taking.{takes_none, takes_on}
+use Rattle.client.proofs.Taking.{takes_on}
 use Rattle.client.proofs.Lending.{same_none, same_on}
-use Rattle.client.proofs.Conducting.{conducted_all, conducted_closed}
+use Rattle.client.proofs.Conducting.{takes_nothing, conducted_all, conducted_closed}
 use Rattle.client.proofs.conduct.conduct.Goals as goal
 
 pub loop-call-init : goal.loop-call-init
@@ -13,7 +13,7 @@ loop-call-init g c = record {
   wide = refl;
   starting = refl;
   own = same_none;
-  takes = takes_none _ _ _ _ _;
+  takes = takes_nothing _ _ _ _ _ c.default-taken.ensures.0 c.default-taken.ensures.1;
 }
 
 pub loop-call-preserved : goal.loop-call-preserved

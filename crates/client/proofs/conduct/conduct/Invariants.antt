@@ -4,6 +4,7 @@ use Rattle.run.specs.Lists.{SameLists}
 use Rattle.walk.specs.Lending.{watch_over}
 use Rattle.walk.specs.Law.{running}
 use Rattle.client.specs.Sessions.{Takes}
+use Rattle.client.proofs.Conducting.{nothing}
 use Rattle.client.proofs.conduct.conduct.Given as goal
 
 -- the calls so far took the session from its start to where it stands
@@ -16,6 +17,6 @@ invariant-loop-call g l = record {
   takes :
       Takes (tree_of l.sheet) (g.S.Store.width l.initial.store)
       (running (watch_over l.initial.walk (g.S.Store.starting l.initial.store) l.initial.lists))
-      l.initial.taken l.initial.lists.mark.now (take l.call-index l.calls)
+      nothing l.initial.lists.mark.now (take l.call-index l.calls)
       (running (watch_over l.walk (g.S.Store.starting l.store) l.lists)) l.taken l.lists.mark.now;
 }

@@ -1,10 +1,10 @@
-use Rattle.std.proofs.Common.{◌<◌, length, refl, ap, arith}
+use Rattle.std.proofs.Common.{length, refl, ap, arith}
 use Rattle.std.proofs.lemmas.Result.{err_from_is_err_and}
 use Rattle.grammar.specs.Parsing.{read_to, level_of, fixed_closing}
 use Rattle.grammar.proofs.Leaves.{no, real, not_true}
 use Rattle.grammar.proofs.Entering.{grown_none}
 use Rattle.grammar.proofs.Formulas.{measured_from}
-use Rattle.grammar.proofs.Units.{within_measured, number_unit, name_unit, not_unit, not_stops, pick_unit, pick_name_stops, pick_stops, bracket_unit, bracket_stops, unclosed_stops, unit_stops, deep_not, deep_pick, deep_bracket, alone_formula, first_stops, mixed_stops, weights_stop, right_stops, join_formula}
+use Rattle.grammar.proofs.Units.{unit_within, unit_within_stops, formula_within, formula_within_stops, within_measured, number_unit, name_unit, not_unit, not_stops, pick_unit, pick_name_stops, pick_stops, bracket_unit, bracket_stops, unclosed_stops, unit_stops, deep_not, deep_pick, deep_bracket, alone_formula, first_stops, mixed_stops, weights_stop, right_stops, join_formula}
 use Rattle.grammar.proofs.formula_part.+read_formula_read_unit.Goals as goal
 
 pub read_formula-returns-in_err-left-clause-value : goal.read_formula-returns-in_err-left-clause-value
@@ -28,12 +28,12 @@ read_formula-returns-in_default t c =
 
 pub read_formula-returns-then-not-fits-clause-value : goal.read_formula-returns-then-not-fits-clause-value
 read_formula-returns-then-not-fits-clause-value t c =
-    λ text e.
+    rw c.at.ensures (λ text e.
     let l = c.in_ok-left.ensures.value text e in (
       l.0,
       mixed_stops text c.args.depth c.args.cursor.now.at (level_of c.args.level) _ l.1 c.peek-ahead.result (c.peek-ahead.ensures.sees text l.0) c.in-Join.join c.in-Join.is
           (λ z. not_true (c.if-not-fits.ensures.1 z)),
-    )
+    ))
 
 pub read_formula-returns-in_err-weights-clause-value : goal.read_formula-returns-in_err-weights-clause-value
 read_formula-returns-in_err-weights-clause-value t c =
@@ -85,80 +85,83 @@ read_formula-returns-clause-value t c =
           (c.if-not-fits.ensures.0 refl) w.1 right.grown r.1 c.push-body.ensures,
     )
 
-pub read_unit-returns-then-depth-eq0-clause-value : goal.read_unit-returns-then-depth-eq0-clause-value
-read_unit-returns-then-depth-eq0-clause-value t c =
-    λ text e. (
+pub read_unit-returns-in_err-allowed-in-Not-clause-value : goal.read_unit-returns-in_err-allowed-in-Not-clause-value
+read_unit-returns-in_err-allowed-in-Not-clause-value t c =
+    let q = err_from_is_err_and c.from_residual.result c.from_residual.ensures.1 in
+    let a = c.in_err-allowed-in-Not.ensures in
+    rw (q.1, q.2) (λ text e. (
       e,
-      deep_not text c.args.depth c.args.cursor.now.at c.args.table.now c.args.table.now c.peek-ahead.result (c.peek-ahead.ensures.sees text e) _ c.too_deep.ensures c.in-Not.is
-          c.if-depth-eq0.true,
-    )
+      deep_not text c.args.depth c.args.cursor.now.at c.args.table.now c.args.table.now c.peek-ahead.result (c.peek-ahead.ensures.sees text e) _ a.1 c.in-Not.is a.0,
+    ))
 
-pub read_unit-returns-then-depth-eq0-2-clause-value : goal.read_unit-returns-then-depth-eq0-2-clause-value
-read_unit-returns-then-depth-eq0-2-clause-value t c =
-    λ text e. (
+pub read_unit-returns-in_err-allowed-in-Pick-clause-value : goal.read_unit-returns-in_err-allowed-in-Pick-clause-value
+read_unit-returns-in_err-allowed-in-Pick-clause-value t c =
+    let q = err_from_is_err_and c.from_residual-in_err-allowed-in-Pick.result c.from_residual-in_err-allowed-in-Pick.ensures.1 in
+    let a = c.in_err-allowed-in-Pick.ensures in
+    rw (q.1, q.2) (λ text e. (
       e,
-      deep_pick text c.args.depth c.args.cursor.now.at c.args.table.now c.args.table.now c.peek-ahead.result (c.peek-ahead.ensures.sees text e) _ c.too_deep-then-depth-eq0-2.ensures c.in-Pick.is
-          c.if-depth-eq0-2.true,
-    )
+      deep_pick text c.args.depth c.args.cursor.now.at c.args.table.now c.args.table.now c.peek-ahead.result (c.peek-ahead.ensures.sees text e) _ a.1 c.in-Pick.is a.0,
+    ))
 
-pub read_unit-returns-then-depth-eq0-3-clause-value : goal.read_unit-returns-then-depth-eq0-3-clause-value
-read_unit-returns-then-depth-eq0-3-clause-value t c =
-    λ text e. (
+pub read_unit-returns-in_err-allowed-in-Opening-clause-value : goal.read_unit-returns-in_err-allowed-in-Opening-clause-value
+read_unit-returns-in_err-allowed-in-Opening-clause-value t c =
+    let q = err_from_is_err_and c.from_residual-in_err-allowed-in-Opening.result c.from_residual-in_err-allowed-in-Opening.ensures.1 in
+    let a = c.in_err-allowed-in-Opening.ensures in
+    rw (q.1, q.2) (λ text e. (
       e,
-      deep_bracket text c.args.depth c.args.cursor.now.at c.args.table.now c.args.table.now c.peek-ahead.result (c.peek-ahead.ensures.sees text e) _ c.too_deep-then-depth-eq0-3.ensures c.in-Opening.is
-          c.if-depth-eq0-3.true,
-    )
+      deep_bracket text c.args.depth c.args.cursor.now.at c.args.table.now c.args.table.now c.peek-ahead.result (c.peek-ahead.ensures.sees text e) _ a.1 c.in-Opening.is a.0,
+    ))
 
 pub read_unit-returns-in_err-inner-in-Not-clause-value : goal.read_unit-returns-in_err-inner-in-Not-clause-value
 read_unit-returns-in_err-inner-in-Not-clause-value t c =
-    let lt : 0 < c.args.depth = omega arith in
-    let q = err_from_is_err_and c.from_residual.result c.from_residual.ensures.1 in
+    let d = c.in_ok-allowed-in-Not.ensures in
+    let q = err_from_is_err_and c.from_residual-in_err-inner-in-Not.result c.from_residual-in_err-inner-in-Not.ensures.1 in
     rw (q.1, q.2) (λ text e.
     let i = c.in_err-inner-in-Not.ensures.value text e in (
       i.0,
-      not_stops text c.args.depth c.args.cursor.now.at c.args.table.now c.args.table.now c.peek-ahead.result (c.peek-ahead.ensures.sees text e) _ c.in-Not.is lt i.1,
+      not_stops text c.args.depth c.args.cursor.now.at c.args.table.now c.args.table.now c.peek-ahead.result (c.peek-ahead.ensures.sees text e) _ c.in-Not.is d.0 (unit_within_stops text c.args.depth _ _ c.args.table.now _ d.1 i.1),
     ))
 
 pub read_unit-returns-in_err-name-in-Pick-clause-value : goal.read_unit-returns-in_err-name-in-Pick-clause-value
 read_unit-returns-in_err-name-in-Pick-clause-value t c =
-    let lt : 0 < c.args.depth = omega arith in
+    let d = c.in_ok-allowed-in-Pick.ensures in
     let q = err_from_is_err_and c.from_residual-in_err-name-in-Pick.result c.from_residual-in_err-name-in-Pick.ensures.1 in
     rw (q.1, q.2) (λ text e.
     let n = c.in_err-name-in-Pick.ensures text e in (
       n.0,
-      pick_name_stops text c.args.depth c.args.cursor.now.at c.args.table.now c.args.table.now c.peek-ahead.result (c.peek-ahead.ensures.sees text e) _ c.in-Pick.is lt n.1,
+      pick_name_stops text c.args.depth c.args.cursor.now.at c.args.table.now c.args.table.now c.peek-ahead.result (c.peek-ahead.ensures.sees text e) _ c.in-Pick.is d.0 n.1,
     ))
 
 pub read_unit-returns-in_err-inner-in-Pick-clause-value : goal.read_unit-returns-in_err-inner-in-Pick-clause-value
 read_unit-returns-in_err-inner-in-Pick-clause-value t c =
-    let lt : 0 < c.args.depth = omega arith in
+    let d = c.in_ok-allowed-in-Pick.ensures in
     let q = err_from_is_err_and c.from_residual-in_err-inner-in-Pick.result c.from_residual-in_err-inner-in-Pick.ensures.1 in
     rw (q.1, q.2) (λ text e.
     let n = c.in_ok-name-in-Pick.ensures text e in
     let i = c.in_err-inner-in-Pick.ensures.value text n.0 in (
       i.0,
-      pick_stops text c.args.depth c.args.cursor.now.at c.args.table.now c.args.table.now c.peek-ahead.result (c.peek-ahead.ensures.sees text e) _ _ c.in-Pick.is lt n.1 i.1,
+      pick_stops text c.args.depth c.args.cursor.now.at c.args.table.now c.args.table.now c.peek-ahead.result (c.peek-ahead.ensures.sees text e) _ _ c.in-Pick.is d.0 n.1 (unit_within_stops text c.args.depth _ _ c.args.table.now _ d.1 i.1),
     ))
 
 pub read_unit-returns-in_err-inner-in-Opening-clause-value : goal.read_unit-returns-in_err-inner-in-Opening-clause-value
 read_unit-returns-in_err-inner-in-Opening-clause-value t c =
-    let lt : 0 < c.args.depth = omega arith in
+    let d = c.in_ok-allowed-in-Opening.ensures in
     let q = err_from_is_err_and c.from_residual-in_err-inner-in-Opening.result c.from_residual-in_err-inner-in-Opening.ensures.1 in
     rw (q.1, q.2) (λ text e.
     let i = c.in_err-inner-in-Opening.ensures.value text e in (
       i.0,
-      bracket_stops text c.args.depth c.args.cursor.now.at c.args.table.now c.args.table.now c.peek-ahead.result (c.peek-ahead.ensures.sees text e) _ c.in-Opening.is lt i.1,
+      bracket_stops text c.args.depth c.args.cursor.now.at c.args.table.now c.args.table.now c.peek-ahead.result (c.peek-ahead.ensures.sees text e) _ c.in-Opening.is d.0 (formula_within_stops text c.args.depth _ _ c.args.table.now _ d.1 i.1),
     ))
 
 pub read_unit-returns-in_err-expect-in-Opening-clause-value : goal.read_unit-returns-in_err-expect-in-Opening-clause-value
 read_unit-returns-in_err-expect-in-Opening-clause-value t c =
-    let lt : 0 < c.args.depth = omega arith in
+    let d = c.in_ok-allowed-in-Opening.ensures in
     let q = err_from_is_err_and c.from_residual-in_err-expect-in-Opening.result c.from_residual-in_err-expect-in-Opening.ensures.1 in
     rw (q.1, q.2) (λ text e.
     let i = c.in_ok-inner-in-Opening.ensures.value text e in
-    let x = c.in_err-expect-in-Opening.ensures text i.0 in (
+    let x = c.in_err-expect-in-Opening.ensures.asked text i.0 in (
       x.0,
-      unclosed_stops text c.args.depth c.args.cursor.now.at c.args.table.now _ c.peek-ahead.result (c.peek-ahead.ensures.sees text e) _ _ c.in-Opening.is lt i.1
+      unclosed_stops text c.args.depth c.args.cursor.now.at c.args.table.now _ c.peek-ahead.result (c.peek-ahead.ensures.sees text e) _ _ c.in-Opening.is d.0 (formula_within text c.args.depth _ _ _ _ _ d.1 i.1)
           (x.1 _ fixed_closing),
     ))
 
@@ -196,7 +199,7 @@ read_unit-returns-in-Name-clause-value t c =
 
 pub read_unit-returns-in_ok-inner-in-Not-clause-measured : goal.read_unit-returns-in_ok-inner-in-Not-clause-measured
 read_unit-returns-in_ok-inner-in-Not-clause-measured t c =
-    let lt : 0 < c.args.depth = omega arith in
+    let d = c.in_ok-allowed-in-Not.ensures in
     let is = c.in-Not.is in
     let a = real c.args.cursor.now.text.now _ c.peek-ahead.result (c.peek-ahead.ensures.sees c.args.cursor.now.text.now refl) (λ e. no (cc)) in
     let inner = c.in_ok-inner-in-Not.ensures in
@@ -204,19 +207,19 @@ read_unit-returns-in_ok-inner-in-Not-clause-measured t c =
 
 pub read_unit-returns-in_ok-inner-in-Not-clause-value : goal.read_unit-returns-in_ok-inner-in-Not-clause-value
 read_unit-returns-in_ok-inner-in-Not-clause-value t c =
-    let lt : 0 < c.args.depth = omega arith in
+    let d = c.in_ok-allowed-in-Not.ensures in
     let is = c.in-Not.is in
     let inner = c.in_ok-inner-in-Not.ensures in
     λ text e.
     let i = inner.value text e in (
       i.0,
-      not_unit text c.args.depth c.args.cursor.now.at c.args.table.now _ c.peek-ahead.result (c.peek-ahead.ensures.sees text e) _ _ is lt i.1 c.push-body.ensures
+      not_unit text c.args.depth c.args.cursor.now.at c.args.table.now _ c.peek-ahead.result (c.peek-ahead.ensures.sees text e) _ _ is d.0 (unit_within text c.args.depth _ _ _ _ _ d.1 i.1) c.push-body.ensures
           c.within.ensures,
     )
 
 pub read_unit-returns-in_ok-inner-in-Pick-clause-measured : goal.read_unit-returns-in_ok-inner-in-Pick-clause-measured
 read_unit-returns-in_ok-inner-in-Pick-clause-measured t c =
-    let lt : 0 < c.args.depth = omega arith in
+    let d = c.in_ok-allowed-in-Pick.ensures in
     let is = c.in-Pick.is in
     let text = c.args.cursor.now.text.now in
     let a = real text _ c.peek-ahead.result (c.peek-ahead.ensures.sees text refl) (λ e. no (cc)) in
@@ -226,40 +229,40 @@ read_unit-returns-in_ok-inner-in-Pick-clause-measured t c =
 
 pub read_unit-returns-in_ok-inner-in-Pick-clause-value : goal.read_unit-returns-in_ok-inner-in-Pick-clause-value
 read_unit-returns-in_ok-inner-in-Pick-clause-value t c =
-    let lt : 0 < c.args.depth = omega arith in
+    let d = c.in_ok-allowed-in-Pick.ensures in
     let is = c.in-Pick.is in
     let inner = c.in_ok-inner-in-Pick.ensures in
     λ text e.
     let n = c.in_ok-name-in-Pick.ensures text e in
     let i = inner.value text n.0 in (
       i.0,
-      pick_unit text c.args.depth c.args.cursor.now.at c.args.table.now _ c.peek-ahead.result (c.peek-ahead.ensures.sees text e) _ _ _ is lt n.1 i.1
+      pick_unit text c.args.depth c.args.cursor.now.at c.args.table.now _ c.peek-ahead.result (c.peek-ahead.ensures.sees text e) _ _ _ is d.0 n.1 (unit_within text c.args.depth _ _ _ _ _ d.1 i.1)
           c.push-body-in-Pick.ensures c.within-in-Pick.ensures,
     )
 
 pub read_unit-returns-in_ok-expect-in-Opening-clause-measured : goal.read_unit-returns-in_ok-expect-in-Opening-clause-measured
 read_unit-returns-in_ok-expect-in-Opening-clause-measured t c =
-    let lt : 0 < c.args.depth = omega arith in
+    let d = c.in_ok-allowed-in-Opening.ensures in
     let is = c.in-Opening.is in
     let text = c.args.cursor.now.text.now in
     let a = real text _ c.peek-ahead.result (c.peek-ahead.ensures.sees text refl) (λ e. no (cc)) in
     let inner = c.in_ok-inner-in-Opening.ensures in
     let i = inner.value text refl in
-    let x = c.in_ok-expect-in-Opening.ensures text i.0 in
+    let x = c.in_ok-expect-in-Opening.ensures.asked text i.0 in
     let y = x.1 _ fixed_closing in
     let m = inner.measured in
     (m.0, omega (arith, m.1, a.0, y.0), m.2)
 
 pub read_unit-returns-in_ok-expect-in-Opening-clause-value : goal.read_unit-returns-in_ok-expect-in-Opening-clause-value
 read_unit-returns-in_ok-expect-in-Opening-clause-value t c =
-    let lt : 0 < c.args.depth = omega arith in
+    let d = c.in_ok-allowed-in-Opening.ensures in
     let is = c.in-Opening.is in
     let inner = c.in_ok-inner-in-Opening.ensures in
     λ text e.
     let i = inner.value text e in
-    let x = c.in_ok-expect-in-Opening.ensures text i.0 in (
+    let x = c.in_ok-expect-in-Opening.ensures.asked text i.0 in (
       x.0,
-      bracket_unit text c.args.depth c.args.cursor.now.at c.args.table.now _ c.peek-ahead.result (c.peek-ahead.ensures.sees text e) _ _ is lt i.1 (x.1 _ fixed_closing),
+      bracket_unit text c.args.depth c.args.cursor.now.at c.args.table.now _ c.peek-ahead.result (c.peek-ahead.ensures.sees text e) _ _ is d.0 (formula_within text c.args.depth _ _ _ _ _ d.1 i.1) (x.1 _ fixed_closing),
     )
 
 pub read_unit-returns-in_default : goal.read_unit-returns-in_default

@@ -15,11 +15,11 @@ returns-in_err-expect-clause-value c =
     let q = err_from_is_err_and c.from_residual-in_err-expect.result c.from_residual-in_err-expect.ensures.1 in
     rw (q.1, q.2) (λ text e.
     let f = c.in_ok-part.ensures.value text e in
-    let x = c.in_err-expect.ensures text f.0 in
+    let x = c.in_err-expect.ensures.asked text f.0 in
     (x.0, no_semicolon text _ c.args.table.now _ _ f.1 _ (x.1 _ fixed_semicolon)))
 
 pub returns-clause-value : goal.returns-clause-value
 returns-clause-value c = λ text e.
     let f = c.in_ok-part.ensures.value text e in
-    let x = c.in_ok-expect.ensures text f.0 in
+    let x = c.in_ok-expect.ensures.asked text f.0 in
     (x.0, body_read text _ c.args.table.now _ _ f.1 _ _ c.len-start.ensures.value (x.1 _ fixed_semicolon))

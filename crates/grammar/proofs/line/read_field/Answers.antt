@@ -10,7 +10,7 @@ returns-in_err-expect-clause-value c =
     let n = c.in_ok-name.ensures text e in
     let l = c.in_ok-low.ensures text n.0 in
     let h = c.in_ok-high.ensures text l.0 in
-    let x = c.in_err-expect.ensures text h.0 in (
+    let x = c.in_err-expect.ensures.asked text h.0 in (
       x.0,
       field_stops text _ _ _ _ n.1 l.1 h.1 c.args.first c.args.table.now c.args.table.now _
           (x.1 _ fixed_semicolon),
@@ -21,7 +21,7 @@ returns-clause-value c = λ text e.
     let n = c.in_ok-name.ensures text e in
     let l = c.in_ok-low.ensures text n.0 in
     let h = c.in_ok-high.ensures text l.0 in
-    let x = c.in_ok-expect.ensures text h.0 in (
+    let x = c.in_ok-expect.ensures.asked text h.0 in (
       x.0,
       field_read text _ _ _ _ n.1 l.1 h.1 _ _ c.args.table.now _ (x.1 _ fixed_semicolon)
           c.keep_field.ensures.lines,

@@ -1,25 +1,17 @@
-use Rattle.std.proofs.Common.{length, sym, subst}
-use Rattle.sheet.specs.Keeping.{PartsKept}
-use Rattle.sheet.specs.Sheets.{tree_of, tree_of_parts}
-use Rattle.names.specs.Faults.{Named}
+use Rattle.std.proofs.Common.{subst}
 use Rattle.names.specs.Looking.{RangesOf, LinesOf}
+use Rattle.sheet.specs.Sheets.{tree_of}
 use Rattle.names.proofs.Made.{made_kept, made_named}
 use Rattle.names.proofs.resolve.resolve.Goals as goal
 
 pub invariant_of-sheet : goal.invariant_of-sheet
 invariant_of-sheet c =
-    let t = c.args.table.now in
-    let ranges = c.ranges_of.result in
-    let lines = c.lines_of.result in
-    let nodes = c.number_lines.new.nodes in
-    let r = subst (λ z. RangesOf z ranges) c.deref.ensures.0 c.ranges_of.ensures in
-    let l = subst (λ z. LinesOf z t.mark lines) c.deref-2.ensures.0 c.lines_of.ensures in
+    let r = subst (λ z. RangesOf z c.ranges_of.result.items) c.deref.ensures.0 c.ranges_of.ensures in
+    let l = subst (λ z. LinesOf z c.rules_of.result.items) c.deref-2.ensures.0 c.rules_of.ensures in
     let kept =
-    subst (λ n. PartsKept ranges n lines c.len-2.result nodes) (sym c.len.ensures.value)
-    (subst (λ n. PartsKept ranges (length t.fields.items) lines n nodes) (sym c.len-2.ensures.value)
-    (made_kept c.args.text.now t nodes ranges lines r l c.requires.0 c.in_ok-number_lines.field-0 c.requires.1 c.requires.2 c.in_ok-number_lines.ensures)) in
+    made_kept c.args.text.now c.args.table.now c.number_lines.new.nodes _ _ _ r l c.mark_of.ensures c.requires.0 c.in_ok-number_lines.field-0 c.requires.1 c.requires.2 c.in_ok-number_lines.ensures in
     record {
-      long = (r.0, l.0, c.number_lines.array_long);
+      long = c.number_lines.array_long;
       some_fields = kept.some_fields;
       few_rules = kept.few_rules;
       ranges_kept = kept.ranges_kept;
@@ -34,13 +26,7 @@ invariant_of-sheet c =
 pub returns : goal.returns
 unfolding tree_of
 returns c =
-    let t = c.args.table.now in
-    let ranges = c.ranges_of.result in
-    let lines = c.lines_of.result in
-    let nodes = c.number_lines.new.nodes in
-    let r = subst (λ z. RangesOf z ranges) c.deref.ensures.0 c.ranges_of.ensures in
-    let l = subst (λ z. LinesOf z t.mark lines) c.deref-2.ensures.0 c.lines_of.ensures in
+    let r = subst (λ z. RangesOf z c.ranges_of.result.items) c.deref.ensures.0 c.ranges_of.ensures in
+    let l = subst (λ z. LinesOf z c.rules_of.result.items) c.deref-2.ensures.0 c.rules_of.ensures in
     λ s holds well.
-    subst (λ n. Named s (tree_of_parts ranges n lines c.len-2.result nodes)) (sym c.len.ensures.value)
-    (subst (λ n. Named s (tree_of_parts ranges (length t.fields.items) lines n nodes)) (sym c.len-2.ensures.value)
-    (made_named c.args.text.now t nodes ranges lines r l s c.in_ok-number_lines.field-0 holds well c.in_ok-number_lines.ensures))
+    made_named c.args.text.now c.args.table.now c.number_lines.new.nodes _ _ _ r l c.mark_of.ensures s c.in_ok-number_lines.field-0 holds well c.in_ok-number_lines.ensures

@@ -1,8 +1,13 @@
-use Rattle.reading.proofs.Marks.{ranges_counted, ranged_as}
+use Rattle.std.proofs.Common.{map, length, sym, ap, ◌∙◌}
+use Rattle.sheet.specs.Sheets.{range_of}
+use Rattle.meaning.specs.Reading.{ranged}
+use Rattle.reading.proofs.Marks.{ranged_as}
 use Rattle.reading.proofs.fields.in_ranges.Goals as goal
 
 pub all_between-requires : goal.all_between-requires
-all_between-requires c = ranges_counted c.args.sheet.now c.args.mark.now c.requires
+all_between-requires c = c.requires ∙ ap length (sym c.deref.ensures.0)
 
 pub returns : goal.returns
-returns c = ranged_as _ _ _ (ranges_counted c.args.sheet.now c.args.mark.now c.requires) c.all_between.ensures
+returns c =
+    ranged_as _ _ _ (c.requires ∙ ap length (sym c.deref.ensures.0)) c.all_between.ensures
+    ∙ ap (λ rs. ranged (map range_of rs) 0 c.args.mark.now) c.deref.ensures.0

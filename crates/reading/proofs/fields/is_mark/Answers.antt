@@ -1,8 +1,9 @@
+use Rattle.std.proofs.Common.{sym, ◌∙◌}
 use Rattle.reading.proofs.Marks.{shaped_when, shaped_else}
 use Rattle.reading.proofs.fields.is_mark.Goals as goal
 
-pub returns-then-mark-sheet : goal.returns-then-mark-sheet
-returns-then-mark-sheet c = shaped_when c.args.sheet.now _ _ c.if-mark-sheet.true c.all_small.ensures
+pub returns-then-mark-field_count : goal.returns-then-mark-field_count
+returns-then-mark-field_count c = shaped_when c.args.sheet.now _ _ (c.if-mark-field_count.true ∙ c.field_count.ensures) c.all_small.ensures
 
-pub returns-else-mark-sheet : goal.returns-else-mark-sheet
-returns-else-mark-sheet c = shaped_else c.args.sheet.now c.args.mark.now c.if-mark-sheet.false
+pub returns-else-mark-field_count : goal.returns-else-mark-field_count
+returns-else-mark-field_count c = rw c.field_count.ensures (shaped_else c.args.sheet.now c.args.mark.now (λ e. c.if-mark-field_count.false (e ∙ sym c.field_count.ensures)))

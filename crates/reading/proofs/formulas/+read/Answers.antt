@@ -1,6 +1,10 @@
-use Rattle.std.proofs.Common.{sym, ℕ, ◌≤◌, ◌≢◌, length, ◌∙◌, ap₂, subst, arith, rules}
+use Rattle.std.proofs.Common.{◌≡◌, sym, ℕ, ◌≤◌, ◌≢◌, length, take, ap, ◌∙◌, ap₂, subst, arith, rules}
 use Rattle.std.proofs.lemmas.List.{length-take-le}
 use Rattle.sheet.specs.Keeping.{known_terms}
+use Rattle.sheet.specs.Table.{line_at}
+use Rattle.sheet.specs.Sheets.{lines_in}
+use Rattle.sheet.proofs.Lines.{rule_in_lines}
+use Rattle.reading.specs.Steps.{Read}
 use Rattle.reading.proofs.Entries.{parts_as, terms_known, call_kept, numbers_long, numbers_count}
 use Rattle.reading.proofs.Entries.{read_compare, read_uncalled, read_called, read_not, read_not_out}
 use Rattle.reading.proofs.Entries.{read_pick}
@@ -46,11 +50,11 @@ of_terms-passed-requires t c =
           ∙ k.known;
     }
 
-pub bounds-sheet-rule : goal.bounds-sheet-rule
-bounds-sheet-rule t c =
+pub bounds-deref-rule : goal.bounds-deref-rule
+bounds-deref-rule t c =
     let k = call_kept c.args.sheet.now c.args.line c.args.node c.requires.within
     c.in-Call.is in
-    omega (arith, k.below, c.args.sheet.now.few_rules)
+    omega (arith, k.below, ap length c.deref.ensures.0)
 
 pub slice_bounds-passed-end : goal.slice_bounds-passed-end
 slice_bounds-passed-end t c =
@@ -72,14 +76,22 @@ pub read-requires : goal.read-requires
 read-requires t c =
     let k = call_kept c.args.sheet.now c.args.line c.args.node c.requires.within
     c.in-Call.is in
-    let line = c.args.sheet.now.lines_kept c.in-Call.rule (omega (arith, k.below)) in
+    let s = c.args.sheet.now in
+    let r = c.in-Call.rule in
+    let line = s.lines_kept r (omega (arith, k.below)) in
+    let same : (line_at c.deref.result.now r).body ≡ (line_at (lines_in s) r).body =
+    ap (λ ls. (line_at ls r).body) c.deref.ensures.0
+    ∙ sym (ap (λ l. l.body) (rule_in_lines s.rules.items s.mark r k.below)) in
     let count = numbers_count k _ _ c.of_terms-passed.result c.of_terms-passed.ensures in
-    (search (rules, line), ((omega (arith, k.below), line.1, omega arith), (c.requires.fields, count)))
+    (search (rules, line), ((omega (arith, k.below), omega (arith, line.1, same), omega (arith, same)), (c.requires.fields, count)))
 
 pub returns-in_ok-fuel-in-Call-clause-read : goal.returns-in_ok-fuel-in-Call-clause-read
 returns-in_ok-fuel-in-Call-clause-read t c =
     read_called c.args.line c.requires.within c.of_terms-passed.result c.in-Call.is
-    c.in_ok-fuel-in-Call.ensures c.of_terms-passed.ensures c.read.ensures.read
+    c.in_ok-fuel-in-Call.ensures c.of_terms-passed.ensures
+    (subst (λ ls. Read c.args.sheet.now c.args.numbers.mark.now (take c.in-Call.count c.of_terms-passed.result)
+    (line_at ls c.in-Call.rule).body c.in_ok-fuel-in-Call.field-0 c.read.result c.read.new.fuel) c.deref.ensures.0
+    c.read.ensures.read)
 
 -- `not`
 

@@ -1,6 +1,7 @@
-use Rattle.std.proofs.Common.{ap, ◌∙◌, arith, rules}
+use Rattle.std.proofs.Common.{ap, ◌∙◌, subst, arith, rules}
 use Rattle.run.specs.Lists.{held}
 use Rattle.sheet.specs.Sheets.{tree_of}
+use Rattle.run.specs.Whole.{Reported}
 use Rattle.run.specs.Ahead.{drawn_ahead}
 use Rattle.run.proofs.Tables.{fields_are}
 use Rattle.run.proofs.Following.{lands, draws_to}
@@ -11,7 +12,7 @@ along-end-requires-clause-fields g c = c.in_ok-admit.ensures.0 ∙ fields_are c.
 
 pub report-ended-requires-clause-room : goal.report-ended-requires-clause-room
 report-ended-requires-clause-room g c =
-    omega (arith, c.in_ok-admit.ensures.0, fields_are c.args.sheet.now, c.in_ok-admit.ensures.1.mark)
+    omega (arith, c.field_count.ensures, c.in_ok-admit.ensures.0, fields_are c.args.sheet.now, c.in_ok-admit.ensures.1.mark)
 
 pub returns-clause-left : goal.returns-clause-left
 returns-clause-left g c =
@@ -28,5 +29,6 @@ returns-clause-left g c =
           (drawn_ahead (g.R.Source.waiting t.guide.source.now)) _ t.at t.picks.now _ t.widths.now _
           (ap (λ q. drawn_ahead (g.R.Source.waiting q)) (search rules)) (search rules) (search rules)
           c.along-end.ensures.left) c.report-ended.result
-          c.report-ended.ensures,
+          (subst (λ k. Reported c.along-end.result k c.args.lists.now.mark.now c.report-ended.result c.report-ended.new.mark)
+          c.field_count.ensures c.report-ended.ensures),
     )

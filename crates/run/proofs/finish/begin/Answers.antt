@@ -1,5 +1,5 @@
-use Rattle.std.proofs.Common.{◌≡◌, ◌<◌, not, map, take, sym, refl, ap, ◌∙◌, add-one, arith}
-use Rattle.std.proofs.lemmas.List.{get_or-take}
+use Rattle.std.proofs.Common.{◌≡◌, ◌<◌, not, map, take, sym, refl, ap, ◌∙◌, add-one, arith, length}
+use Rattle.std.proofs.Math.Seq.{take-length}
 use mathlib.Core.Bool.{not-not}
 use Rattle.formula.specs.declared.Comparison.TheVariants.{AtLeast, AtMost}
 use Rattle.marks.specs.Sets.{kept}
@@ -16,7 +16,7 @@ loop-field-init g c =
     let st = g.S.Store in
     let t = c.restart.new.self in
     let e = c.restart.ensures in
-    (refl, refl, e.left ∙ sym e.same.1 ∙ begin_none (st.starting t) c.args.sheet.now.ranges)
+    (refl, refl, e.left ∙ sym e.same.1 ∙ begin_none (st.starting t) c.args.sheet.now.ranges.items)
 
 pub loop-field-preserved : goal.loop-field-preserved
 loop-field-preserved g c =
@@ -30,14 +30,15 @@ loop-field-preserved g c =
     let S = st.current c.loop-field.store in
     let Q = st.current c.keep.new.self in
     let P = st.current c.keep-in-loop-field.new.self in
-    let r = range_at sh.ranges i in
-    let less : i < sh.field_count = omega (arith, c.loop-field-test.true) in
+    let rs = c.deref-range-items.result.now in
+    let e = c.deref-range-items.ensures.0 in
+    let r = range_at sh.ranges.items i in
+    let less : i < length sh.ranges.items = omega (arith, c.loop-field-test.true, ap length e) in
     let ok = sh.ranges_kept i less in
     let here : i < st.width c.loop-field.store = omega
     (arith, inv.0, c.restart.ensures.same.0, c.requires.fields, less) in
     let next : i < st.width c.keep.new.self = omega (arith, here, a.same.0) in
-    let rs = take sh.field_count sh.ranges in
-    let item : range_at rs i ≡ r = get_or-take sh.field_count sh.ranges i _ less in
+    let item : range_at rs i ≡ r = ap (λ xs. range_at xs i) e in
     let low = keeps_kept (st.width c.loop-field.store) S Q i AtLeast (range_at rs i).low c.keep.result a.left
     here (omega (arith, ok, ap (λ q. q.low) item)) ∙ ap (λ q. kept S i AtLeast q.low) item in
     let high = keeps_kept (st.width c.keep.new.self) Q P i AtMost (range_at rs i).high c.keep-in-loop-field.result
@@ -45,9 +46,9 @@ loop-field-preserved g c =
       b.same.0 ∙ a.same.0 ∙ inv.0,
       b.same.1 ∙ a.same.1 ∙ inv.1,
       high ∙ ap (λ X. kept X i AtMost r.high) low
-          ∙ begin_more (st.starting t) S sh.ranges i (omega (arith, sh.long, sh.some_fields, less))
+          ∙ begin_more (st.starting t) S sh.ranges.items i less
           inv.2
-          ∙ ap (λ k. inside (st.starting t) (map range_of (take k sh.ranges))) (sym (add-one i)),
+          ∙ ap (λ k. inside (st.starting t) (map range_of (take k sh.ranges.items))) (sym (add-one i)),
     )
 
 pub returns : goal.returns
@@ -57,13 +58,14 @@ returns g c =
     let inv = c.loop-field.invariant in
     let e = c.restart.ensures.same in
     let i = c.loop-field.field in
-    let all : i ≡ sh.field_count = omega (arith, c.loop-field-test.false, c.loop-field.auto.field-end) in
+    let all : i ≡ length sh.ranges.items = omega (arith, c.loop-field-test.false, c.loop-field.auto.field-end, ap length c.deref-range-items.ensures.0) in
     record {
       same = (inv.0 ∙ e.0, inv.1 ∙ e.1);
       left =
           inv.2 ∙ ap (λ k. inside (st.starting c.restart.new.self)
-          (map range_of (take k sh.ranges))) all
-          ∙ ap (λ B. inside B (map range_of (take sh.field_count sh.ranges))) e.1
+          (map range_of (take k sh.ranges.items))) all
+          ∙ ap (λ B. inside B (map range_of (take (length sh.ranges.items) sh.ranges.items))) e.1
+          ∙ ap (λ rs. inside (st.starting c.args.store.now) (map range_of rs)) (take-length sh.ranges.items)
           ∙ ap (inside (st.starting c.args.store.now)) (sym (ranges_are sh));
       tells = ap not c.is_empty.ensures.1 ∙ not-not _;
     }

@@ -9,4 +9,4 @@ invariant-loop-field g l =
     (st.width l.store ≡ st.width l.initial.store)
     × (st.starting l.store ≡ st.starting l.initial.store)
     × (st.current l.store ≡ inside (st.starting l.initial.store)
-    (map range_of (take l.field l.sheet.ranges)))
+    (map range_of (take l.field l.sheet.ranges.items)))

@@ -1,4 +1,4 @@
-use Rattle.std.proofs.Common.{◌≡◌, Some, None, refl, ap, ◌∙◌, subst, arith, rules}
+use Rattle.std.proofs.Common.{◌≡◌, Some, None, refl, ap, ◌∙◌, subst₂, arith, rules}
 use Rattle.run.specs.Answering.{lists}
 use Rattle.run.specs.Lists.{held}
 use Rattle.sheet.specs.Sheets.{tree_of}
@@ -25,7 +25,7 @@ returns-then-length-given-clause-left g c =
 
 pub report-requires-clause-room : goal.report-requires-clause-room
 report-requires-clause-room g c =
-    omega (arith, c.in_ok-admit.ensures.0, fields_are c.args.sheet.now, c.in_ok-admit.ensures.1.mark)
+    omega (arith, c.field_count.ensures, c.in_ok-admit.ensures.0, fields_are c.args.sheet.now, c.in_ok-admit.ensures.1.mark)
 
 pub returns-in_err-ended-clause-left : goal.returns-in_err-ended-clause-left
 returns-in_err-ended-clause-left g c =
@@ -40,8 +40,8 @@ returns-in_err-ended-clause-left g c =
     (lands (tree_of c.args.sheet.now) c.args.fuel (st.starting s) _ c.along-end.result
     (recorded_ahead t.guide.given) (recorded_ahead c.args.given) t.at t.picks.now _ t.widths.now _
     (ap recorded_ahead c.along-end.ensures.lists.4) refl refl c.along-end.ensures.left) c.if-length-given.false
-    (subst (λ q. Reported c.along-end.result c.args.sheet.now.field_count c.args.lists.now.mark.now q
-    c.report.new.mark) none c.report.ensures))
+    (subst₂ (λ k q. Reported c.along-end.result k c.args.lists.now.mark.now q c.report.new.mark) c.field_count.ensures none
+    c.report.ensures))
 
 pub returns-clause-left : goal.returns-clause-left
 returns-clause-left g c =
@@ -55,5 +55,5 @@ returns-clause-left g c =
     (lands (tree_of c.args.sheet.now) c.args.fuel (st.starting s) _ c.along-end.result
     (recorded_ahead t.guide.given) (recorded_ahead c.args.given) t.at t.picks.now _ t.widths.now _
     (ap recorded_ahead c.along-end.ensures.lists.4) (search rules) (search rules) c.along-end.ensures.left) c.in_ok-ended.ended c.if-length-given.false
-    (subst (λ q. Reported c.along-end.result c.args.sheet.now.field_count c.args.lists.now.mark.now q
-    c.report.new.mark) some c.report.ensures)
+    (subst₂ (λ k q. Reported c.along-end.result k c.args.lists.now.mark.now q c.report.new.mark) c.field_count.ensures some
+    c.report.ensures)

@@ -1,8 +1,11 @@
-use Rattle.std.proofs.Common.{◌-◌, length, take, set, Some, sym, ap, ◌∙◌, arith}
+use Rattle.std.proofs.Common.{◌≡◌, ◌-◌, length, get_or, take, set, Some, sym, ap, ◌∙◌, subst, arith}
 use Rattle.sheet.specs.declared.node.Node.TheVariants.{Compare}
+use Rattle.sheet.specs.Table.{line_at}
+use Rattle.sheet.specs.Sheets.{lines_in}
+use Rattle.sheet.proofs.Lines.{rule_in_lines}
 use Rattle.run.specs.Ways.{way_of}
 use Rattle.std.proofs.lemmas.List.{length-take-le}
-use Rattle.run.specs.Goals.{spot, spot_of}
+use Rattle.run.specs.Goals.{spot, spot_of, no_goal, Entered}
 use Rattle.run.proofs.Turns.{node_okay, depth}
 use Rattle.run.proofs.Turning.{not_done, compare_room, compare_halted, compare_lives, compare_ends, pick_known, pick_okay, pick_room, pick_halted, pick_done, join_usable, join_room, join_halted, left_done, both_room, both_done, call_okay, call_room, call_halted, call_done}
 use Rattle.run.proofs.turn.step.Goals as goal
@@ -268,8 +271,8 @@ returns-in_err-passed-in-Call-clause-left g c =
     (spot k.goals.now k.frames.now (depth (k.depth.goals - 1) k.depth.frames k.depth.fuel))
     c.pass.result c.from_residual-in_err-passed-in-Call.result h.ok_part (grind arith) c.pass.ensures.left
 
-pub bounds-sheet-rule : goal.bounds-sheet-rule
-bounds-sheet-rule g c =
+pub bounds-deref-rule : goal.bounds-deref-rule
+bounds-deref-rule g c =
     let st = g.S.Store in
     let s = c.args.store.now in
     let k = c.args.stack.now in
@@ -277,7 +280,7 @@ bounds-sheet-rule g c =
     let ok = call_okay c.args.sheet.now (st.width s) c.requires.fields k.goals.now k.frames.now k.depth.goals k.depth.frames
     k.depth.fuel c.requires.fit c.requires.more (st.current s) (st.sound.left s) c.requires.some z
     c.in-Call.rule c.in-Call.count c.in-Call.terms c.in-Call.is in
-    omega (arith, c.args.sheet.now.long, c.args.sheet.now.few_rules, ok.0)
+    omega (arith, ap length c.deref.ensures.0, ok.0)
 
 pub returns-in_ok-passed-in-Call-clause-left : goal.returns-in_ok-passed-in-Call-clause-left
 returns-in_ok-passed-in-Call-clause-left g c =
@@ -288,10 +291,17 @@ returns-in_ok-passed-in-Call-clause-left g c =
     let ok = call_okay c.args.sheet.now (st.width s) c.requires.fields k.goals.now k.frames.now k.depth.goals k.depth.frames
     k.depth.fuel c.requires.fit c.requires.more (st.current s) (st.sound.left s) c.requires.some z
     c.in-Call.rule c.in-Call.count c.in-Call.terms c.in-Call.is in
+    let sh = c.args.sheet.now in
+    let r = c.in-Call.rule in
+    let same : (line_at c.deref.result.now r).body ≡ (line_at (lines_in sh) r).body =
+    ap (λ ls. (line_at ls r).body) c.deref.ensures.0
+    ∙ sym (ap (λ l. l.body) (rule_in_lines sh.rules.items sh.mark r ok.0)) in
     call_done c.args.sheet.now (st.width s) c.requires.fields k.goals.now k.frames.now k.depth.goals k.depth.frames
     k.depth.fuel c.requires.fit c.requires.more (st.current s) (st.sound.left s) c.requires.some z
     c.in-Call.rule c.in-Call.count c.in-Call.terms c.in-Call.is
     (length (take c.in-Call.count c.in-Call.terms)) (st.current c.pass.new.store) (way_of g.G.Guide.ahead c.pass.new.trail)
     c.pass.result c.in_ok-passed-in-Call.passed (length-take-le c.in-Call.count c.in-Call.terms ok.2)
     c.in_ok-passed-in-Call.ensures.ok_part c.pass.ensures.left (spot_of c.enter.new.self) c.enter.result
-    c.enter.ensures.left
+    (subst (λ f. Entered c.in_ok-passed-in-Call.passed f (get_or k.goals.now (k.depth.goals - 1) no_goal).target
+    (spot k.goals.now k.frames.now (depth (k.depth.goals - 1) k.depth.frames k.depth.fuel)) c.enter.result (spot_of c.enter.new.self))
+    same c.enter.ensures.left)

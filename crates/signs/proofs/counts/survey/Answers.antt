@@ -6,10 +6,10 @@ use Rattle.signs.proofs.Counting.{none_counted, one_counted, all_counted, one_on
 use Rattle.signs.proofs.Once.{one_verdict_lem, put_together}
 use Rattle.signs.proofs.counts.survey.Goals as goal
 
-pub returns-then-text-gt32768 : goal.returns-then-text-gt32768
-returns-then-text-gt32768 c =
+pub returns-then-text-gt-LONGEST_TEXT : goal.returns-then-text-gt-LONGEST_TEXT
+returns-then-text-gt-LONGEST_TEXT c =
     let text = c.args.text.now in
-    record { found = too_long c.if-text-gt32768.true; one_verdict = one_verdict_lem text; put_together = put_together text }
+    record { found = rw c.at.ensures (too_long c.if-text-gt-LONGEST_TEXT.true); one_verdict = one_verdict_lem text; put_together = put_together text }
 
 pub tokens-init : goal.tokens-init
 tokens-init c =
@@ -37,7 +37,7 @@ returns c =
     let end = subst (λ o. Follows text c.tokens.at (Ok o)) c.in_default.is c.in_ok-next.ensures in
     let all = all_counted _ _ _ end c.tokens.invariant.2 in
     record {
-      found = (all.0, record { short = c.if-text-gt32768.false; cut = all.1 }, all.2);
+      found = (all.0, record { short = c.if-text-gt-LONGEST_TEXT.false; cut = all.1 }, all.2);
       one_verdict = one_verdict_lem text;
       put_together = put_together text;
     }
@@ -47,7 +47,7 @@ returns-in_err-next c =
     let text = c.args.text.now in
     let p = err_from_is_err_and c.from_residual.result c.from_residual.ensures.1 in
     record {
-      found = rw (p.1, p.2) (not_cut c.if-text-gt32768.false (c.tokens.invariant.3 _ _ c.in_err-next.ensures.refused));
+      found = rw (p.1, p.2) (not_cut c.if-text-gt-LONGEST_TEXT.false (c.tokens.invariant.3 _ _ c.in_err-next.ensures.refused));
       one_verdict = one_verdict_lem text;
       put_together = put_together text;
     }

@@ -12,6 +12,6 @@ loop-byte-preserved c =
     let d = All-get_or (λ b. digit b ≡ true) digits i 0 c.loop-byte-test.true c.requires.digits in
     let small : c.from.result < 10 = search (rules, d) in (
       digit_more i _ _ _ refl c.loop-byte.invariant.0 small,
-      ap (λ k. value_after (c.loop-byte.n * 10 + k) (drop (i + 1) digits)) c.from.ensures
-          ∙ sym (ap (value_after c.loop-byte.n) (drop_more digits i 0 c.loop-byte-test.true)) ∙ c.loop-byte.invariant.1,
+      ap (λ k. value_after (c.loop-byte.number * 10 + k) (drop (i + 1) digits)) c.from.ensures
+          ∙ sym (ap (value_after c.loop-byte.number) (drop_more digits i 0 c.loop-byte-test.true)) ∙ c.loop-byte.invariant.1,
     )

@@ -4,4 +4,4 @@ use Rattle.signs.proofs.cut.decimal.Given as goal
 
 abbrev pub invariant-loop-byte : goal.invariant-loop-byte
 invariant-loop-byte l =
-    (l.n < 10 ^ l.byte-index) × (value_after l.n (drop l.byte-index l.digits) ≡ value l.digits)
+    (l.number < 10 ^ l.byte-index) × (value_after l.number (drop l.byte-index l.digits) ≡ value l.digits)

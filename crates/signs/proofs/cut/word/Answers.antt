@@ -1,17 +1,20 @@
-use Rattle.std.proofs.Common.{refl, arith}
-use Rattle.signs.proofs.Scans.{word_here, length_part, over_here}
+use Rattle.std.proofs.Common.{arith}
+use Rattle.std.proofs.lemmas.List.{length-take-le}
+use Rattle.signs.specs.Bytes.{alphanumeric}
+use Rattle.signs.specs.Cutting.{over_limit}
+use Rattle.signs.proofs.Scans.{front_within, word_here}
 use Rattle.signs.proofs.Spelling.{spelling_some}
 use Rattle.signs.proofs.cut.word.Goals as goal
 
-pub returns-then-end-place-gt16 : goal.returns-then-end-place-gt16
-returns-then-end-place-gt16 c =
-    let run = c.run_end-end.ensures in
-    let n = length_part c.args.text.now c.args.place c.run_end-end.result run.from run.within in
-    over_here _ _ c.over_limit.ensures (word_here run c.requires.inside c.requires.begins) (λ h. omega arith)
+pub returns-then-size-gt16 : goal.returns-then-size-gt16
+returns-then-size-gt16 c =
+    let within = front_within alphanumeric c.args.bytes.now c.front-size.result c.front-size.ensures in
+    let n = length-take-le c.front-size.result c.args.bytes.now within in
+    over_limit (word_here _ _ c.front-size.ensures c.requires.some c.requires.begins) (λ h. omega arith)
 
 pub returns : goal.returns
 returns c =
-    let run = c.run_end-end.ensures in
-    let n = length_part c.args.text.now c.args.place c.run_end-end.result run.from run.within in
-    let takes = word_here run c.requires.inside c.requires.begins in
-    (refl, run.within, omega (arith, spelling_some takes.spells), takes, omega arith)
+    let within = front_within alphanumeric c.args.bytes.now c.front-size.result c.front-size.ensures in
+    let n = length-take-le c.front-size.result c.args.bytes.now within in
+    let takes = word_here _ _ c.front-size.ensures c.requires.some c.requires.begins in
+    (within, omega (arith, spelling_some takes.spells), takes, omega arith)

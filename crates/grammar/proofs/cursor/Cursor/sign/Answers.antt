@@ -2,4 +2,6 @@ use Rattle.grammar.proofs.Cursors.{sign_taken}
 use Rattle.grammar.proofs.cursor.Cursor.sign.Goals as goal
 
 pub returns : goal.returns
-returns c = sign_taken c.args.self.now c.take.new.self _ _ _ c.peek-ahead.ensures.sees c.sign.ensures c.take.ensures
+returns c =
+    let f = c.take.ensures in
+    sign_taken c.args.self.now c.take.new.self f.0 f.1 _ f.2 f.3.1 f.4

@@ -1,7 +1,7 @@
 use Rattle.std.proofs.Common.{◌+◌, ap}
 use Rattle.grammar.proofs.Lists.{kept_more, counted_more}
-use Rattle.grammar.proofs.list.Few.keep.Goals as goal
-use Rattle.grammar.proofs.list.Few.keep.Goals.{then-self-lt4, else-self-lt4}
+use Rattle.grammar.proofs.few.Few.keep.Goals as goal
+use Rattle.grammar.proofs.few.Few.keep.Goals.{then-self-lt4, else-self-lt4}
 
 pub returns : goal.returns
 returns g c = elim c.if-self-lt4.branch [
