@@ -1,6 +1,5 @@
 // What is printed for a person below a fault: its line and column, that line of the text, a mark under the
-// place, and advice. Each line is made in a buffer of the caller's. A text and a place are taken apart here, since a
-// caller has the place from a fault: a struct of both would only be made for the call.
+// place, and advice. Each line is made in a buffer of the caller's.
 #![tactic(auto)]
 
 ghost use Rattle.lines.specs.Lines.{Made};
@@ -11,7 +10,6 @@ ghost use Rattle.advice.specs.Places.{OneLine};
 
 use kind::Kind;
 use lines::Piece::{Blanks, Number, Shown, Text};
-use place::Spot;
 use refusal::Refusal;
 
 pub mod kind;
@@ -21,39 +19,40 @@ mod reading;
 mod sentence;
 pub mod whole;
 
-// `line N, column N`: where the place stands, counted from 1. No other place of the text has both.
-pub fn position_line(text: &[u8], place: usize, out: &mut [u8]) -> Result<usize, Refusal>
-    ensures made { Made (position_text text.now place) out.old out.new result }
-    ensures one_place { OnePlace text.now place }
-{
-    let spot = Spot { text, place };
-    // std has no `From<usize>` for `u64`, so both are cast
-    let line = [
-        Text(b"line "),
-        Number(spot.line_number() as u64),
-        Text(b", column "),
-        Number(spot.column() as u64),
-        Text(b"\n"),
-    ];
-    lines::write(&line, out)
-}
+pub use place::Spot;
 
-// The line of the text in which the place lies, and in no other.
-pub fn shown_line(text: &[u8], place: usize, out: &mut [u8]) -> Result<usize, Refusal>
-    ensures made { Made (shown_text text.now place) out.old out.new result }
-    ensures one_line { OneLine text.now place }
-{
-    let line = Spot { text, place }.line();
-    lines::write(&[Shown(line), Text(b"\n")], out)
-}
+impl Spot<'_> {
+    // `line N, column N`: where the place stands, counted from 1. No other place of the text has both.
+    pub fn position_line(self, out: &mut [u8]) -> Result<usize, Refusal>
+        ensures made { Made (position_text self.entry.text.now self.entry.place) out.old out.new result }
+        ensures one_place { OnePlace self.entry.text.now self.entry.place }
+    {
+        // std has no `From<usize>` for `u64`, so both are cast
+        let line = [
+            Text(b"line "),
+            Number(self.line_number() as u64),
+            Text(b", column "),
+            Number(self.column() as u64),
+            Text(b"\n"),
+        ];
+        lines::write(&line, out)
+    }
 
-// A mark `^`, which stands under the place when printed below its line.
-pub fn marker_line(text: &[u8], place: usize, out: &mut [u8]) -> Result<usize, Refusal>
-    ensures made { Made (marker_text text.now place) out.old out.new result }
-    ensures stands_under { StandsUnder text.now place }
-{
-    let column = Spot { text, place }.column();
-    lines::write(&[Blanks(column - 1), Text(b"^\n")], out)
+    // The line of the text in which the place lies, and in no other.
+    pub fn shown_line(self, out: &mut [u8]) -> Result<usize, Refusal>
+        ensures made { Made (shown_text self.entry.text.now self.entry.place) out.old out.new result }
+        ensures one_line { OneLine self.entry.text.now self.entry.place }
+    {
+        lines::write(&[Shown(self.line()), Text(b"\n")], out)
+    }
+
+    // A mark `^`, which stands under the place when printed below its line.
+    pub fn marker_line(self, out: &mut [u8]) -> Result<usize, Refusal>
+        ensures made { Made (marker_text self.entry.text.now self.entry.place) out.old out.new result }
+        ensures stands_under { StandsUnder self.entry.text.now self.entry.place }
+    {
+        lines::write(&[Blanks(self.column() - 1), Text(b"^\n")], out)
+    }
 }
 
 // What is wrong, and what would be right.

@@ -3,14 +3,15 @@ ghost use Rattle.std.specs.Prelude.{◌≡◌, ◌≤◌, length, take};
 ghost use Rattle.advice.specs.Laws.{OnePlace, StandsUnder};
 ghost use Rattle.advice.specs.Places.{OneLine, column, end_of_line, number_of_line, line_of, start_of_line};
 
-// A place of a text. One past the end of the text counts as its end.
-#[derive(Clone, Copy)]
-pub(crate) struct Spot<'a> {
-    pub(crate) text: &'a [u8],
-    pub(crate) place: usize,
+// A place of a text. A place past the end of the text counts as its end.
+#[derive(Clone, Copy, PartialEq, Eq, Debug)]
+pub struct Spot<'a> {
+    pub text: &'a [u8],
+    pub place: usize,
 }
 
 impl<'a> Spot<'a> {
+    // The place, or the end of the text.
     fn within(self) -> usize
         ensures value { result ≡ length (take self.entry.place self.entry.text.now) }
         ensures bound { result ≤ length self.entry.text.now }
@@ -36,7 +37,7 @@ impl<'a> Spot<'a> {
         end - before.take_while(|byte| **byte != b'\n').count()
     }
 
-    // Where it ends, before its line feed.
+    // Where the place's line ends, before its line feed.
     fn line_end(self) -> usize
         ensures value { result ≡ end_of_line self.entry.text.now self.entry.place }
         ensures bound { result ≤ length self.entry.text.now }
@@ -46,6 +47,7 @@ impl<'a> Spot<'a> {
         start + after.take_while(|byte| **byte != b'\n').count()
     }
 
+    // The place's column, from 1.
     pub(crate) fn column(self) -> usize
         ensures value { result ≡ column self.entry.text.now self.entry.place }
         ensures one_place { OnePlace self.entry.text.now self.entry.place }

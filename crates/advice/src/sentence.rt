@@ -1,4 +1,4 @@
-// Advice on a refusal for the person who wrote the text.
+// The sentences that advise the person who wrote a text.
 ghost use Rattle.std.specs.Prelude.{◌≡◌};
 ghost use Rattle.advice.specs.Advice.{advice};
 

@@ -1,4 +1,4 @@
-// Whether a text ends where a sheet may end.
+// Texts that end where a sheet may end.
 ghost use Rattle.std.specs.Prelude.{Decides};
 ghost use Rattle.advice.specs.Permitted.{WholeSheet};
 

@@ -9,7 +9,7 @@ use std::{env, io};
 use streams::{TEXT_ROOM, put};
 
 // What the arguments ask for.
-#[derive(Drop)]
+#[derive(PartialEq, Eq, Debug, Drop)]
 struct Asked {
     fuel: u8,
     mark: Vec<u16>,
@@ -20,7 +20,6 @@ fn main(rt: HostRuntime) -> io::Result<()> {
         eprintln!(rt; "usage: check FUEL NUMBER ..  < SHEET")?;
         return Err(io::Error::other("no fuel, or a word that is no number"));
     };
-    // Each program reads its text by these lines: a function of a library for them would allocate.
     let mut text = vec![in rt.alloc(); 0u8; TEXT_ROOM]?;
     let size = streams::fill(&mut rt.stdin(), &mut text)?;
     text.truncate(size);

@@ -7,7 +7,9 @@ use Rattle.refusal.specs.declared.Refusal.{Refusal}
 use Rattle.meaning.specs.Reading.{Allowed}
 use Rattle.meaning.specs.Runs.{Outcome}
 use Rattle.meaning.specs.Walks.{WholeWalk}
-use Rattle.run.specs.declared.answer.Drew.{Drew}
+use Rattle.run.specs.declared.answer.Ended.{Ended}
+use Rattle.run.specs.declared.answer.Ran.{Ran}
+use Rattle.run.specs.declared.lists.Lists.{Lists as Borrowed}
 use Rattle.run.specs.Answering.{Lists, setting, AnswersDraw}
 use Rattle.walk.specs.declared.answer.Answer.{Answer}
 use Rattle.walk.specs.declared.answer.Answer.TheVariants as answer
@@ -16,7 +18,8 @@ use Rattle.std.specs.declared.ops.ControlFlow.{ControlFlow}
 use Rattle.std.specs.declared.ops.ControlFlow.TheVariants.{Continue, Break}
 use Rattle.walk.specs.declared.state.Walk.{Walk}
 use Rattle.walk.specs.Watching.{Watched, watch, Fresh}
-use Rattle.walk.specs.Calls.{Reply, gives, finished, Lent, Nexts}
+use Rattle.walk.specs.Calls.{Reply, gives, finished, lent, Nexts}
+use Rattle.walk.specs.Lending.{watch_over, lent_in}
 use Rattle.walk.specs.Law as law
 use Rattle.walk.specs.Law.{History, Stage, running, closed, outcomes, marks_in, counts, Among, AllDiffer, defined}
 use Rattle.client.specs.declared.call.Call.{Call}
@@ -92,7 +95,7 @@ pub record Draws (s : Sheet) (n : ℕ) (starting : Marks) (fuel : ℕ) : Type 0 
   pub rest : List ℕ
   pub own : Lists
   pub own' : Lists
-  pub result : Result Drew Refusal
+  pub result : Result (Ran (Option Ended)) Refusal
   pub answers : AnswersDraw (setting s fuel n starting) waiting rest own result own'
 
 -- the closing figures, where there are any, are the counts of the outcomes, and come after finished
@@ -146,19 +149,19 @@ issues (Ok answer.Spent) = false
 issues (Ok answer.Finished) = false
 issues (Err e) = false
 
--- whether two nexts of a fresh walk both issued a mark, over a store of n fields with the starting set S; they leave
--- their mark lists as these
-pub record TwoNexts (s : Sheet) (n fuel : ℕ) (S : Marks) (both : Bool) (first second : List ℕ) : Type 0 where
-  pub walk : Watched
-  pub fresh : Fresh walk
+-- Two nexts of a fresh walk, the second with a mark list of its own: whether both issued a mark, and how they leave the
+-- two mark lists. So false says that two nexts of a fresh walk over these lists did not both issue one.
+pub record TwoNexts
+    (s : Sheet) (n fuel : ℕ) (S : Marks) (before : Borrowed) (second_before : List ℕ) (both : Bool)
+    (first second : List ℕ) : Type 0 where
+  pub walk : Walk
   pub fuel_is : walk.fuel ≡ fuel
-  pub starting_is : walk.starting ≡ S
-  pub lent_first : Lent
-  pub lent_second : Lent
+  pub fresh : Fresh (watch_over walk S before)
   pub one : Result Answer Refusal
-  pub two : Result Answer Refusal
   pub between : Watched
+  pub first_next : Nexts s n (watch_over walk S before) (lent_in before) one between first
+  pub two : Result Answer Refusal
   pub after : Watched
-  pub first_next : Nexts s n walk lent_first one between first
-  pub second_next : Nexts s n between lent_second two after second
+  pub second_next :
+      Nexts s n between (lent (length before.goals.now) (length before.frames.now) second_before) two after second
   pub told : both ≡ (issues one && issues two)

@@ -1,4 +1,6 @@
-// The calls of a session but for its close, each on the session's own walk, sheet and store.
+// The calls of a session, each on the session's own walk, sheet and store. What they are given is no struct. Tried: its
+// methods must rebind each loan before they lend it on, and each contract must say that the struct holds the same loans
+// still, which is longer than these parameters.
 ghost use Rattle.std.specs.Prelude.{◌≡◌, ℕ, ◌+◌, ◌^◌, ◌<◌, ◌≤◌, List, [], ◌∷◌, length, Ok};
 ghost use Rattle.formula.specs.Trees.{Sheet as Formulas};
 ghost use Rattle.marks.specs.Sets.{Marks};
@@ -61,9 +63,7 @@ impl Taken {
         match answer {
             Ok(Answer::Mark) => self.entries += fields,
             Ok(Answer::Finished) => self.finished = true,
-            Ok(Answer::DeadEnd) => {}
-            Ok(Answer::Spent) => {}
-            Err(_) => {}
+            Ok(Answer::DeadEnd | Answer::Spent) | Err(_) => {}
         }
     }
 }
@@ -79,7 +79,8 @@ fn close(walk: Walk) -> ControlFlow<Tallies, Walk>
     }
 }
 
-// A next over lists that come one by one: a struct that holds a part of another struct's list gets no generated proof.
+// A next over lists that come one by one. Tried: a struct that holds a part of another struct's list gets no generated
+// proof.
 fn next_over<S: Store>(
     walk: &mut Walk,
     sheet: &Sheet,
@@ -126,8 +127,6 @@ fn issue<S: Store>(
         (running (watch_over walk.new (S.starting store.new) lists.new))
         taken.new lists.new.mark.now }
 {
-    let from = taken.entries;
-    let end = lists.mark.len();
     let answer = next_over(
         walk,
         sheet,
@@ -136,17 +135,16 @@ fn issue<S: Store>(
         lists.widths,
         lists.goals,
         lists.frames,
-        &mut lists.mark[from..end],
+        &mut lists.mark[taken.entries..],
     );
     taken.note(answer, sheet.field_count());
 }
 
-// One call. It leaves the walk, which goes on, or the closing figures. The parameters are no struct: it would be made
-// only to be taken apart again by each arm.
+// One call. It leaves the walk, which goes on, or the closing figures.
 pub(crate) fn act<S: Store, R: Source>(
     call: Call,
     asked: &[u16],
-    walk: Walk,
+    mut walk: Walk,
     sheet: &Sheet,
     store: &mut S,
     source: &mut R,
@@ -163,24 +161,23 @@ pub(crate) fn act<S: Store, R: Source>(
         (stage_of result (S.starting store.new) lists.new.picks.now lists.new.widths.now)
         taken.new lists.new.mark.now }
 {
-    let mut on = walk;
     match call {
         Call::Next => {
-            issue(&mut on, sheet, store, lists, taken);
-            ControlFlow::Continue(on)
+            issue(&mut walk, sheet, store, lists, taken);
+            ControlFlow::Continue(walk)
         }
         Call::Draw(fuel) => {
             practise(fuel, sheet, store, source, lists.goals, lists.frames);
-            ControlFlow::Continue(on)
+            ControlFlow::Continue(walk)
         }
         Call::Check(fuel) => {
             let _ = reading::check(sheet, asked, fuel);
-            ControlFlow::Continue(on)
+            ControlFlow::Continue(walk)
         }
         Call::Tally => {
-            let _ = on.tally();
-            ControlFlow::Continue(on)
+            let _ = walk.tally();
+            ControlFlow::Continue(walk)
         }
-        Call::Close => close(on),
+        Call::Close => close(walk),
     }
 }

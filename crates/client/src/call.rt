@@ -1,7 +1,8 @@
 // Calls as data, and what a session of calls comes to.
 use walk::answer::Tallies;
 
-// A call on a walk, its sheet and its store: a draw and a check with a fuel of their own.
+// A call on a walk, its sheet and its store: a draw and a check with a fuel of their own. An enum and no closures,
+// which would be no plainer: the contract names the list of calls.
 #[derive(Clone, Copy, Debug, PartialEq, Eq)]
 pub enum Call {
     Next,

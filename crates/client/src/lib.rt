@@ -2,7 +2,7 @@
 // given as data.
 #![tactic(auto)]
 
-ghost use Rattle.std.specs.Prelude.{◌≡◌, T, take, ◌≢◌};
+ghost use Rattle.std.specs.Prelude.{◌≡◌, ◌&&◌, T, take, ◌≢◌};
 ghost use Rattle.sheet.specs.Sheets.{tree_of};
 ghost use Rattle.run.specs.Lists.{SameLists};
 ghost use Rattle.client.specs.Sessions.{issues, TwoNexts};
@@ -18,15 +18,15 @@ mod act;
 pub mod call;
 pub mod conduct;
 
-// Whether a next issued a mark.
-fn is_mark(answer: Result<Answer, Refusal>) -> bool
-    ensures { result ≡ issues answer }
+// Whether both nexts issued a mark.
+fn both_marks(one: Result<Answer, Refusal>, two: Result<Answer, Refusal>) -> bool
+    ensures { result ≡ (issues one && issues two) }
 {
-    matches!(answer, Ok(Answer::Mark))
+    matches!((one, two), (Ok(Answer::Mark), Ok(Answer::Mark)))
 }
 
-// Two nexts of one walk, the first over the mark list and the next over a second one; if both issue a mark, the marks
-// differ.
+// Whether two nexts of a fresh walk both issue a mark, the first into the mark list and the next into a second one; if
+// they do, the marks differ.
 pub fn two_marks_differ<S: Store>(
     fuel: u8,
     sheet: &Sheet,
@@ -36,7 +36,7 @@ pub fn two_marks_differ<S: Store>(
 ) -> bool
     ensures own { SameLists lists.old lists.new }
     ensures told { TwoNexts (tree_of sheet.now) (S.width store.old) fuel
-        (S.starting store.old) result lists.new.mark.now second.new }
+        (S.starting store.old) lists.old second.old result lists.new.mark.now second.new }
     ensures differ { T result →
         take (S.width store.old) lists.new.mark.now ≢ take (S.width store.old) second.new }
 {
@@ -50,5 +50,5 @@ pub fn two_marks_differ<S: Store>(
         mark: second,
     };
     let two = walk.next(sheet, store, &mut others);
-    is_mark(one) && is_mark(two)
+    both_marks(one, two)
 }

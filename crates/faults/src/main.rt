@@ -19,7 +19,8 @@ fn main(rt: HostRuntime) -> io::Result<()> {
     out.flush()
 }
 
-// A line for each sheet. The byte after an `@` ends its line.
+// A line for each sheet. The byte after an `@` ends its line. No `split`: what follows the last `@` is no sheet, and
+// the byte after each belongs to none.
 fn tell_all<W: Write>(sheets: &[u8], out: &mut W) -> io::Result<()> {
     let mut rest = sheets;
     while let Some(end) = rest.iter().position(|byte| *byte == b'@') {
@@ -35,17 +36,11 @@ fn put_told<W: Write>(text: &[u8], out: &mut W) -> io::Result<()> {
     put(tell(text, &mut line), &line, out)
 }
 
-// Makes the line of one sheet's contents, or of its fault. std has no `From<usize>` for `u64`, so the counts are cast.
-// `proofread` has the same few lines: a function of `lines` over what `names` found would have it stand on `names`.
+// Makes the line of one sheet's contents, or of its fault.
 fn tell(text: &[u8], line: &mut [u8]) -> Result<usize, Refusal> {
     let mut sheet = Sheet::blank();
     match names::read(text, &mut sheet) {
-        Ok(found) => lines::contents_line(
-            found.fields as u64,
-            found.rules as u64,
-            found.formulas as u64,
-            line,
-        ),
+        Ok(found) => lines::contents_line(found.fields, found.rules, found.formulas, line),
         Err(fault) => lines::fault_line(fault, line),
     }
 }

@@ -1,3 +1,4 @@
 pub mod Comparing
 pub mod Joining
 pub mod Trees
+pub mod Shifting

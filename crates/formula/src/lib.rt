@@ -1,5 +1,7 @@
-// Comparison signs and joins, shared by tokens, sheets, stores and runs.
+// Comparison signs, joins and terms, shared by tokens, sheets, stores and runs.
 #![tactic(auto)]
+
+pub mod term;
 
 ghost use Rattle.std.specs.Prelude.{◌≡◌};
 ghost use Rattle.formula.specs.Comparing.{holds, opposite, mirrored, aimed};

@@ -1,5 +1,5 @@
 -- What a cursor sees and takes, of the text that it keeps.
-use Rattle.std.proofs.Common.{◌≡◌, ℕ, ◌≤◌, List, length, Some, None, Option, Ok, Err, Result, ◌∙◌, sym, refl, subst}
+use Rattle.std.proofs.Common.{◌≡◌, ℕ, ◌≤◌, true, false, List, length, Some, None, Option, is_some, Ok, Err, Result, ◌∙◌, sym, refl, subst}
 use Rattle.refusal.specs.declared.Fault.{Fault}
 use Rattle.formula.specs.declared.Comparison.{Comparison}
 use Rattle.grammar.specs.declared.cursor.Cursor.{Cursor}
@@ -8,7 +8,7 @@ use Rattle.grammar.specs.declared.table.Number.{Number as NumberEntry}
 use Rattle.grammar.specs.declared.token.Class.{Class}
 use Rattle.grammar.specs.declared.token.Class.TheVariants as class
 use Rattle.grammar.specs.declared.token.Ahead.{Ahead}
-use Rattle.grammar.specs.Parsing.{Read, read_to, Peeked, Along, Sees, Takes, Taken, name_in, number_in, sign_in, NameRead, NumberRead, SignRead}
+use Rattle.grammar.specs.Parsing.{Read, read_to, Peeked, Along, Sees, PassedIf, Takes, Taken, name_in, number_in, sign_in, NameRead, NumberRead, SignRead}
 use Rattle.grammar.proofs.Leaves.{no, refused_at, name_read, name_stops, number_read, number_stops, sign_read, sign_stops}
 
 pub sees : (c : Cursor) {h : Ahead} → Peeked c.text.now c.at h → Sees c h
@@ -92,3 +92,22 @@ pub unnumbered :
     → o ≡ None
     → (m : ℕ) → k ≡ class.Number m → ⊥
 unnumbered k p o e z m q = no (cc)
+
+-- a token that was passed if it is of the class
+module _ (k : Class) (b a : Cursor) where
+  pub passed :
+      (r : Option ℕ)
+      → is_some r ≡ true
+      → PassedIf k b a r
+      → (h : Ahead) × Sees b h × (h.class ≡ k) × (a.at ≡ h.end) × (a.text.now ≡ b.text.now)
+  passed (Some q) s (h, w, (is, there, ended, same)) = (h, w, is, ended, same)
+  passed None s f = absurd (no (cc))
+
+  -- or was not: the cursor is where it was
+  pub not_passed :
+      (r : Option ℕ)
+      → is_some r ≡ false
+      → PassedIf k b a r
+      → (a ≡ b) × ((h : Ahead) × Sees a h × (h.class ≡ k → ⊥))
+  not_passed (Some q) s f = absurd (no (cc))
+  not_passed None s (h, w, (z, same)) = (same, (h, subst (λ c. Sees c h) (sym same) w, z))

@@ -5,7 +5,7 @@ use Rattle.std.proofs.lemmas.List.{take-map}
 use Rattle.formula.specs.declared.Comparison.{Comparison}
 use Rattle.formula.specs.declared.Join.{Join}
 use Rattle.grammar.specs.declared.table.Word.{Word as WordEntry}
-use Rattle.grammar.specs.declared.table.Term.{Term as TermEntry}
+use Rattle.grammar.specs.Tables.{TermEntry}
 use Rattle.grammar.specs.declared.table.Weights.{Weights as WeightsEntry}
 use Rattle.grammar.specs.declared.table.Node.{Node}
 use Rattle.grammar.specs.declared.table.Node.TheVariants.{Compared, Called, Negated, Picked, Joined}
@@ -91,7 +91,7 @@ module _ (text : List ℕ) {b a : Table} where
   pub entered_call :
       {i : ℕ} (v : WordEntry) (list : Few TermEntry) (all : List TermEntry)
       → Holds4 TermEntry list all
-      → Pushed b a (Called v list.count list.items) i
+      → Pushed b a (Called v list) i
       → Entered text b a (record { body = i; size = 1; joins = 0 })
       (called (word_of text v) (map (term_of text) all))
   entered_call {i} v list all h p = record {

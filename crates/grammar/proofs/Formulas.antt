@@ -5,7 +5,7 @@ use Rattle.formula.specs.declared.Comparison.{Comparison}
 use Rattle.formula.specs.declared.Join.{Join}
 use Rattle.grammar.specs.declared.table.Word.{Word as WordEntry}
 use Rattle.grammar.specs.declared.table.Number.{Number as NumberEntry}
-use Rattle.grammar.specs.declared.table.Term.{Term as TermEntry}
+use Rattle.grammar.specs.Tables.{TermEntry}
 use Rattle.grammar.specs.declared.token.Class.{Class}
 use Rattle.grammar.specs.declared.token.Class.TheVariants as class
 use Rattle.grammar.specs.declared.token.Ahead.{Ahead}
@@ -77,7 +77,7 @@ call_item {d} {i} {q} {x} {w} {xs} {us} {ts} l g =
 pub call_read :
     (text : List ℕ) (p : ℕ) (v : WordEntry) {b a : Table} (i : ℕ) (list : Read (Few TermEntry))
     → TermsRead text p (Ok list)
-    → Pushed b a (node.Called v list.value.count list.value.items) i
+    → Pushed b a (node.Called v list.value) i
     → CallRead text p v b a (Ok (record { value = record { body = i; size = 1; joins = 0 }; end = list.end }))
 call_read text p v i list h e = (
   h.0,
@@ -150,7 +150,7 @@ module _ (text : List ℕ) (p : ℕ) (h : Ahead) (k : Peeked text p h) (v : Word
         halts = λ c. goes_on unit_call tt (m.halts c);
       }
 
-  pub called_read :
+  called_read :
       (r : Result (Read Part) Fault)
       → h.class ≡ class.Opening
       → CallRead text h.end v b a r
@@ -159,6 +159,14 @@ module _ (text : List ℕ) (p : ℕ) (h : Ahead) (k : Peeked text p h) (v : Word
       let g = real text p h k (λ e. no (cc)) in
       (omega (arith, g.0, o.0), o.1, λ xs l. called_came x o (seen_as text p h k is xs l))
   called_read (Err f) is o = λ xs l. called_stopped o (seen_as text p h k is xs l)
+
+  pub called_from :
+      (e : ℕ) (r : Result (Read Part) Fault)
+      → h.class ≡ class.Opening
+      → e ≡ h.end
+      → CallRead text e v b a r
+      → NamedRead text p v b a r
+  called_from e r is ended o = called_read r is (subst (λ z. CallRead text z v b a r) ended o)
 
   pub compared_read :
       (t : Read TermEntry) (r : Result (Read Part) Fault)

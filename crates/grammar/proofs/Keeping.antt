@@ -1,5 +1,5 @@
 -- Lines that a table keeps: one more, or from now on none.
-use Rattle.std.proofs.Common.{◌≡◌, ℕ, suc, ◌+◌, ◌<◌, ◌≤◌, true, false, ◌⊎◌, List, [], ◌∷◌, ◌++◌, map, length, take, is_some, Some, None, Option, sym, refl, ap, ◌∙◌, subst, inl, inr, append_assoc, arith, length-append}
+use Rattle.std.proofs.Common.{◌≡◌, ℕ, suc, ◌+◌, ◌<◌, ◌≤◌, Bool, true, false, ◌⊎◌, List, [], ◌∷◌, ◌++◌, map, length, take, is_some, Some, None, Option, sym, refl, ap, ◌∙◌, subst, inl, inr, append_assoc, arith, length-append}
 use lib.ListN.{length-map}
 use Rattle.std.proofs.lemmas.List.{take_all}
 use Rattle.arrayvec.specs.ArrayVec.{ArrayVec}
@@ -10,11 +10,11 @@ use Rattle.grammar.specs.declared.table.RuleLine.{RuleLine}
 use Rattle.grammar.specs.declared.table.Table.{Table}
 use Rattle.grammar.specs.declared.formula_part.Part.{Part}
 use Rattle.grammar.specs.declared.line.Head.{Head}
-use Rattle.grammar.specs.Syntax.{Formula, Field, field_line, Rule, rule_line, mark_line, sheet}
+use Rattle.grammar.specs.Syntax.{Word, Formula, Field, field_line, Rule, rule_line, mark_line, sheet}
 use Rattle.grammar.specs.Tables.{word_of, number_of, node_at, Entries, size, joins, Over, many_params, many_joins, many_formulas, field_of, fields_of, params_of, rules_of, Rules, no_rules, a_rule, LinesAbove, Holds, over_field, over_rule, over_mark}
 use Rattle.grammar.specs.Tables as tables
-use Rattle.grammar.specs.Parsing.{Holds4, entered, Grown, LinesKept, all_kept, field_over, rule_over, Lines, BodyHeld, Passing}
-use Rattle.grammar.proofs.Leaves.{no}
+use Rattle.grammar.specs.Parsing.{Holds4, entered, Grown, LinesKept, all_kept, field_over, rule_over, Lines, BodyHeld, Exceeding, Kept}
+use Rattle.grammar.proofs.Leaves.{no, not_true}
 use Rattle.grammar.proofs.Entering.{starts, entries_same}
 
 some_none : {X : Type 0} {x : X} {o : Option X} → o ≡ Some x → is_some o ≡ false → ⊥
@@ -30,7 +30,7 @@ not_above : (a b : ℕ) → (b < a → ⊥) → a ≤ b
 not_above a b z = omega (arith, z)
 
 -- within the limits
-pub not_passing : (s n : ℕ) (part : Part) → (Passing s n part → ⊥) → (n ≤ 4) × (s + part.size ≤ 256)
+not_passing : (s n : ℕ) (part : Part) → (Exceeding s n part → ⊥) → (n ≤ 4) × (s + part.size ≤ 256)
 not_passing s n part z =
     (not_above n 4 (λ h. z (inl h)), not_above (s + part.size) 256 (λ h. z (inr (inr h))))
 
@@ -82,13 +82,28 @@ module _ (text : List ℕ) where
       rule_over w below (g.others.1 ∙ o) (above_same g.fields g.rules
       (λ k lt. g.same k (omega arith)) h) le v e
 
+  -- A line passes a limit as it is read exactly where it does as it is written
+
+  module _
+      {b : Table} {s n : ℕ} {part : Part} {f : Formula} {ps : List Word}
+      (body : BodyHeld text b s part f) (counts : n ≡ length ps) where
+    passing : Exceeding s n part → Over s ps f
+    passing (inl h) = many_params (omega (arith, counts))
+    passing (inr (inl h)) = many_joins (omega (arith, body.joined))
+    passing (inr (inr h)) = many_formulas (omega (arith, body.sized))
+
+    passed : Over s ps f → Exceeding s n part
+    passed (many_params h) = inl (omega (arith, counts))
+    passed (many_joins h) = inr (inl (omega (arith, body.joined)))
+    passed (many_formulas h) = inr (inr (omega (arith, body.sized)))
+
   -- Field lines
 
   no_rule : (q : Rule) (qs below : List Rule) → [] ≡ qs ++ (q ∷ below) → ⊥
   no_rule q [] below e = no (cc)
   no_rule q (r ∷ qs) below e = no (cc)
 
-  pub field_skipped :
+  field_skipped :
       {b : Table} {fs : List Field} (f : Field)
       → is_some b.over ≡ true
       → Lines text b fs []
@@ -122,7 +137,7 @@ module _ (text : List ℕ) where
   rules_length no_rules = refl
   rules_length (a_rule p w ps st en ov r) = ap (λ k. suc k) (rules_length r)
 
-  pub field_passes :
+  field_passes :
       (b : Table) (fs : List Field) (line : FieldLine)
       → is_some b.over ≡ false
       → length b.fields.items ≡ 8
@@ -135,6 +150,19 @@ module _ (text : List ℕ) where
   field_passes b fs line s le (field_over w lo hi below o h d n e) = absurd (some_none o s)
   field_passes b fs line s le (rule_over w below o h d v e) = absurd (some_none o s)
 
+  pub field_left_out :
+      (b a : Table) (fs : List Field) (line : FieldLine) {v : Bool}
+      → (v ≡ true → length b.fields.items ≡ 8)
+      → Kept b a line.first v false
+      → Lines text b fs []
+      → Lines text a (fs ++ field_of text line ∷ []) []
+  field_left_out b a fs line full kept h =
+      let result : Table → Type 0 = λ t. Lines text t (fs ++ field_of text line ∷ []) [] in
+      elim kept [
+        | inl k ↦ subst result (sym k.1) (field_skipped (field_of text line) k.0 h)
+        | inr k ↦ subst result (sym k.2) (field_passes b fs line k.0 (full k.1) h)
+      ]
+
   -- Rule lines
 
   rules_more :
@@ -146,7 +174,7 @@ module _ (text : List ℕ) where
   rules_more (a_rule p w ps st en ov r) k = a_rule p w ps st en ov (rules_more r k)
 
   module _ (b : Table) (fs : List Field) (rs : List Rule) (s : ℕ) (le : s ≤ entered b) where
-    pub rule_skipped :
+    rule_skipped :
         (r : Rule)
         → is_some b.over ≡ true
         → LinesKept text b fs rs s
@@ -160,21 +188,12 @@ module _ (text : List ℕ) where
     module _
         (first : ℕ) (head : Head) (part : Part) (all : List WordEntry) (f : Formula)
         (few : Holds4 WordEntry head.params all) (body : BodyHeld text b s part f) where
-      passing : Passing s head.params.count part → Over s (map (word_of text) all) f
-      passing (inl h) =
-          many_params (let c = few.counts in let l = length-map all (word_of text) in omega arith)
-      passing (inr (inl h)) = many_joins (omega (arith, body.joined))
-      passing (inr (inr h)) = many_formulas (omega (arith, body.sized))
+      named : head.params.count ≡ length (map (word_of text) all)
+      named = few.counts ∙ sym (length-map all (word_of text))
 
-      passed : Over s (map (word_of text) all) f → Passing s head.params.count part
-      passed (many_params h) =
-          inl (let c = few.counts in let l = length-map all (word_of text) in omega arith)
-      passed (many_joins h) = inr (inl (omega (arith, body.joined)))
-      passed (many_formulas h) = inr (inr (omega (arith, body.sized)))
-
-      pub rule_passes :
+      rule_passes :
           is_some b.over ≡ false
-          → (length b.rules.items ≡ 16) ⊎ Passing s head.params.count part
+          → (length b.rules.items ≡ 16) ⊎ Exceeding s head.params.count part
           → LinesKept text b fs rs s
           → Lines text (over_at b first) fs (rs ++ rule_line first (word_of text head.name)
           (map (word_of text) all) f ∷ [])
@@ -182,21 +201,35 @@ module _ (text : List ℕ) where
           rule_over (word_of text head.name) [] refl (over_above h) le (inl (omega (arith, rules_length h.rules_held)))
           refl
       rule_passes is (inr v) (all_kept o h) =
-          rule_over (word_of text head.name) [] refl (over_above h) le (inr (passing v)) refl
+          rule_over (word_of text head.name) [] refl (over_above h) le (inr (passing body named v)) refl
       rule_passes is v (field_over w lo hi below o h d n e) = absurd (some_none o is)
       rule_passes is v (rule_over w below o h d u e) = absurd (some_none o is)
+
+      pub rule_left_out :
+          (a : Table) {v : Bool}
+          → (v ≡ true → (length b.rules.items ≡ 16) ⊎ Exceeding s head.params.count part)
+          → Kept b a first v false
+          → LinesKept text b fs rs s
+          → Lines text a fs (rs ++ rule_line first (word_of text head.name) (map (word_of text) all) f ∷ [])
+      rule_left_out a full kept h =
+          let read : Rule = rule_line first (word_of text head.name) (map (word_of text) all) f in
+          let result : Table → Type 0 = λ t. Lines text t fs (rs ++ read ∷ []) in
+          elim kept [
+            | inl k ↦ subst result (sym k.1) (rule_skipped read k.0 h)
+            | inr k ↦ subst result (sym k.2) (rule_passes k.0 (full k.1) h)
+          ]
 
       -- the line, as it is stored
       abbrev line : ArrayVec WordEntry → RuleLine
       line params = record { first = first; name = head.name; params = params; start = s; body = part.body }
 
-      pub rule_stored :
+      rule_stored :
           (params : ArrayVec WordEntry) (more : ArrayVec RuleLine)
           → params.items ≡ take head.params.count head.params.items
           → more.items ≡ b.rules.items ++ line params ∷ []
           → is_some b.over ≡ false
           → length b.rules.items < 16
-          → (Passing s head.params.count part → ⊥)
+          → (Exceeding s head.params.count part → ⊥)
           → s + part.size ≤ 256
           → head.params.count ≤ 4
           → LinesKept text b fs rs s
@@ -222,17 +255,35 @@ module _ (text : List ℕ) where
                 (rule_line first (word_of text head.name) (map (word_of text) all) f ∷ [])) e
                 (a_rule refl refl
                 (ap (map (word_of text)) (ps_is ∙ few.holds ∙ take_all 4 all small))
-                refl k.0 (λ v. z (passed v)) no_rules)));
+                refl k.0 (λ v. z (passed body named v)) no_rules)));
           })
       rule_stored params more ps_is is none lt z x y (field_over w lo hi below o h d n e) = absurd (some_none o none)
       rule_stored params more ps_is is none lt z x y (rule_over w below o h d u e) = absurd (some_none o none)
+
+      pub rule_kept :
+          (a : Table) {v : Bool} (params : ArrayVec WordEntry) (more : ArrayVec RuleLine)
+          → params.items ≡ take head.params.count head.params.items
+          → more.items ≡ a.rules.items ++ line params ∷ []
+          → (v ≡ false → length b.rules.items < 16)
+          → (Exceeding s head.params.count part → v ≡ true)
+          → Kept b a first v true
+          → LinesKept text b fs rs s
+          → Lines text (record a { rules = more })
+          fs (rs ++ rule_line first (word_of text head.name) (map (word_of text) all) f ∷ [])
+      rule_kept a params more ps_is is room full kept h =
+          let over : Exceeding s head.params.count part → ⊥ = λ p. not_true (sym kept.1 ∙ full p) in
+          let within = not_passing s head.params.count part over in
+          let read : Rule = rule_line first (word_of text head.name) (map (word_of text) all) f in
+          subst (λ t. Lines text (record t { rules = more }) fs (rs ++ read ∷ [])) (sym kept.2)
+          (rule_stored params more ps_is (is ∙ ap (λ t. t.rules.items ++ line params ∷ []) kept.2)
+          kept.0 (room kept.1) over within.1 within.0 h)
 
   -- The mark line
 
   module _
       (b : Table) (fs : List Field) (rs : List Rule) (s first : ℕ) (part : Part) (f : Formula)
       (body : BodyHeld text b s part f) where
-    pub mark_skipped :
+    mark_skipped :
         is_some b.over ≡ true
         → LinesKept text b fs rs s
         → Holds text b (sheet fs rs (mark_line first f))
@@ -240,28 +291,31 @@ module _ (text : List ℕ) where
     mark_skipped is (field_over w lo hi below o h d n e) = over_field o h n w lo hi below e
     mark_skipped is (rule_over w below o h d v e) = over_rule o h v w below e
 
-    mark_passing : Passing s 0 part → Over s [] f
-    mark_passing (inl h) = absurd (no (omega arith))
-    mark_passing (inr (inl h)) = many_joins (omega (arith, body.joined))
-    mark_passing (inr (inr h)) = many_formulas (omega (arith, body.sized))
-
-    mark_passed : Over s [] f → Passing s 0 part
-    mark_passed (many_params h) = absurd (no (omega arith))
-    mark_passed (many_joins h) = inr (inl (omega (arith, body.joined)))
-    mark_passed (many_formulas h) = inr (inr (omega (arith, body.sized)))
-
-    pub mark_passes :
+    mark_passes :
         is_some b.over ≡ false
-        → Passing s 0 part
+        → Exceeding s 0 part
         → LinesKept text b fs rs s
         → Holds text (over_at b first) (sheet fs rs (mark_line first f))
-    mark_passes is v (all_kept o h) = over_mark refl (over_above h) (mark_passing v)
+    mark_passes is v (all_kept o h) = over_mark refl (over_above h) (passing body refl v)
     mark_passes is v (field_over w lo hi below o h d n e) = absurd (some_none o is)
     mark_passes is v (rule_over w below o h d u e) = absurd (some_none o is)
 
-    pub mark_stored :
+    pub mark_left_out :
+        (a : Table) {v : Bool}
+        → (v ≡ true → Exceeding s 0 part)
+        → Kept b a first v false
+        → LinesKept text b fs rs s
+        → Holds text a (sheet fs rs (mark_line first f))
+    mark_left_out a full kept h =
+        let result : Table → Type 0 = λ t. Holds text t (sheet fs rs (mark_line first f)) in
+        elim kept [
+          | inl k ↦ subst result (sym k.1) (mark_skipped k.0 h)
+          | inr k ↦ subst result (sym k.2) (mark_passes k.0 (full k.1) h)
+        ]
+
+    mark_stored :
         is_some b.over ≡ false
-        → (Passing s 0 part → ⊥)
+        → (Exceeding s 0 part → ⊥)
         → s + part.size ≤ 256
         → LinesKept text b fs rs s
         → Holds text (record b { mark = record { first = first; start = s; body = part.body } })
@@ -269,6 +323,19 @@ module _ (text : List ℕ) where
     mark_stored is z fits (all_kept o h) =
         let k = body.held (omega (arith, body.sized)) in
         tables.whole o (above_same refl refl (λ i lt. refl) h) refl refl k.0
-        (λ v. z (mark_passed v))
+        (λ v. z (passed body refl v))
     mark_stored is z fits (field_over w lo hi below o h d n e) = absurd (some_none o is)
     mark_stored is z fits (rule_over w below o h d u e) = absurd (some_none o is)
+
+    pub mark_kept :
+        (a : Table) {v : Bool}
+        → (Exceeding s 0 part → v ≡ true)
+        → Kept b a first v true
+        → LinesKept text b fs rs s
+        → Holds text (record a { mark = record { first = first; start = s; body = part.body } })
+        (sheet fs rs (mark_line first f))
+    mark_kept a full kept h =
+        let within : Exceeding s 0 part → ⊥ = λ p. not_true (sym kept.1 ∙ full p) in
+        subst (λ t. Holds text (record t { mark = record { first = first; start = s; body = part.body } })
+        (sheet fs rs (mark_line first f))) (sym kept.2)
+        (mark_stored kept.0 within (not_passing s 0 part within).1 h)

@@ -24,6 +24,15 @@ not_true e = no (cc)
 abbrev pub refused_at : ℕ → Fault
 refused_at p = record { refusal = TokenNotPermitted; place = p }
 
+-- what holds from the end of a token that was passed, at its place
+pub from_passed :
+    (h : Ahead) {i e : ℕ} (P : (end place : ℕ) → Type 0)
+    → i ≡ h.place
+    → e ≡ h.end
+    → P e i
+    → P h.end h.place
+from_passed h {i} {e} P there ended o = subst (λ z. P z h.place) ended (subst (P e) there o)
+
 -- no move takes what the class says
 abbrev pub Stuck : List ℕ → Class → State → Type 0
 Stuck text k s = (t : Tok) (i : ℕ) (n : Need) (u : State) → Move s t n u → Says text k t i → ⊥

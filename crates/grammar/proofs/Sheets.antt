@@ -15,7 +15,7 @@ use Rattle.grammar.specs.Answers.{Parsed}
 use Rattle.grammar.specs.Moves.{field_word, Is, is_field, State, expects, fields, rules, start, Need, Move, asked, line_field, no_field, line_rule, Halts, goes_on, halts_token, halts_deep, halts_mixed, halts_end}
 use Rattle.grammar.specs.Parsing.{Left, left, Says, says_field, says_rule, Seen, a_token, Peeked, Stopped, Came, all_kept, Lines, FieldRead, RuleRead, NotFirst, MarkRead, FirstRead, FieldsSoFar, FieldsRead, RulesSoFar, RulesRead, parsed_to}
 use Rattle.grammar.proofs.Next.{not_field}
-use Rattle.grammar.proofs.Leaves.{no, refused_at, stops, real, seen_as}
+use Rattle.grammar.proofs.Leaves.{no, from_passed, refused_at, stops, real, seen_as}
 use Rattle.grammar.proofs.Verdict.{refused}
 use Rattle.grammar.proofs.WellRead.{well_read_lem}
 use Rattle.grammar.proofs.Places.{rises, small}
@@ -76,8 +76,8 @@ module _ (text : List ℕ) (p : ℕ) (h : Ahead) (k : Peeked text p h) where
       → e ≡ h.end
       → FieldRead text e i b a r
       → FirstRead text p b a r
-  first_read b a r i e is there ended o = first_begun b a r is
-      (subst (λ z. FieldRead text z h.place b a r) ended (subst (λ z. FieldRead text e z b a r) there o))
+  first_read b a r i e is there ended o =
+      first_begun b a r is (from_passed h (λ e i. FieldRead text e i b a r) there ended o)
 
   pub first_stops :
       (b : Table) (f : Fault)
@@ -166,12 +166,15 @@ module _ (text : List ℕ) (p : ℕ) (b : Table) where
         }
 
     pub fields_more :
-        {a : Table} (g : ℕ)
+        {a : Table} (i e g : ℕ)
         → FieldsSoFar text p b t q
         → h.class ≡ class.Field
-        → FieldRead text h.end h.place t a (Ok g)
+        → i ≡ h.place
+        → e ≡ h.end
+        → FieldRead text e i t a (Ok g)
         → FieldsSoFar text p b a g
-    fields_more g s is o =
+    fields_more {a} i e g s is there ended m =
+        let o = from_passed h (λ e i. FieldRead text e i t a (Ok g)) there ended m in
         let r = real text q h k (λ e. no (cc)) in (
           omega (arith, s.0, r.0, o.0),
           o.1,
@@ -204,12 +207,15 @@ module _ (text : List ℕ) (p : ℕ) (b : Table) where
         }
 
     pub fields_stop :
-        (f : Fault)
+        (f : Fault) (i e : ℕ)
         → FieldsSoFar text p b t q
         → h.class ≡ class.Field
-        → FieldRead text h.end h.place t t (Err f)
+        → i ≡ h.place
+        → e ≡ h.end
+        → FieldRead text e i t t (Err f)
         → FieldsRead text p b b (Err f)
-    fields_stop f s is o xs l =
+    fields_stop f i e s is there ended m xs l =
+        let o = from_passed h (λ e i. FieldRead text e i t t (Err f)) there ended m in
         let v = s.2 xs l in
         field_stop (λ n r z. v.goes tt n r z) o (seen_as text q h k is v.rest v.remains)
 
@@ -240,12 +246,15 @@ module _ (text : List ℕ) (p : ℕ) (b : Table) where
         }
 
     pub rules_more :
-        {a : Table} (g : ℕ)
+        {a : Table} (i e g : ℕ)
         → RulesSoFar text p b t q
         → h.class ≡ class.Rule
-        → RuleRead text h.end h.place t a (Ok g)
+        → i ≡ h.place
+        → e ≡ h.end
+        → RuleRead text e i t a (Ok g)
         → RulesSoFar text p b a g
-    rules_more g s is o =
+    rules_more {a} i e g s is there ended m =
+        let o = from_passed h (λ e i. RuleRead text e i t a (Ok g)) there ended m in
         let r = real text q h k (λ e. no (cc)) in (
           omega (arith, s.0, r.0, o.0),
           o.1,
@@ -278,12 +287,15 @@ module _ (text : List ℕ) (p : ℕ) (b : Table) where
         }
 
     pub rules_stop :
-        (f : Fault)
+        (f : Fault) (i e : ℕ)
         → RulesSoFar text p b t q
         → h.class ≡ class.Rule
-        → RuleRead text h.end h.place t t (Err f)
+        → i ≡ h.place
+        → e ≡ h.end
+        → RuleRead text e i t t (Err f)
         → RulesRead text p b b (Err f)
-    rules_stop f s is o xs l =
+    rules_stop f i e s is there ended m xs l =
+        let o = from_passed h (λ e i. RuleRead text e i t t (Err f)) there ended m in
         let v = s.2 xs l in
         rule_stop (λ n r z. v.goes tt n r z) o (seen_as text q h k is v.rest v.remains)
 

@@ -1,10 +1,12 @@
 -- What reading a term gives, from what its tokens give.
-use Rattle.std.proofs.Common.{◌≡◌, ℕ, ◌≤◌, List, ◌∷◌, length, Ok, Err, Result, sym, refl, subst, arith}
+use Rattle.std.proofs.Common.{◌≡◌, ℕ, ◌≤◌, List, ◌∷◌, length, Ok, Err, Result, sym, refl, subst, arith, ap, ◌∙◌}
 use Rattle.refusal.specs.declared.Fault.{Fault}
 use Rattle.grammar.specs.declared.table.Word.{Word as WordEntry}
 use Rattle.grammar.specs.declared.table.Number.{Number as NumberEntry}
-use Rattle.grammar.specs.declared.table.Term.{Term as TermEntry}
-use Rattle.grammar.specs.declared.table.Term.TheVariants as entry
+use Rattle.grammar.specs.Tables.{TermEntry}
+use Rattle.formula.specs.declared.term.Term.TheVariants as entry
+use Rattle.formula.specs.declared.term.Shift.{Shift}
+use Rattle.formula.specs.declared.term.Shift.TheVariants.{Up, Down}
 use Rattle.grammar.specs.declared.token.Class.{Class}
 use Rattle.grammar.specs.declared.token.Class.TheVariants as class
 use Rattle.grammar.specs.declared.token.Ahead.{Ahead}
@@ -12,7 +14,7 @@ use Rattle.grammar.specs.Syntax.{Word, word, num, constant, bare, raised, lowere
 use Rattle.grammar.specs.Grammar.{Tok, name, number, plus, minus, at, Tokens, IsTerm, a_constant, a_bare, a_sum, a_difference}
 use Rattle.grammar.specs.Tables.{word_of, term_of}
 use Rattle.grammar.specs.Moves.{State, term, summed, NoSum, term_number, term_name, sum_plus, sum_minus, no_sum, Halts, goes_on, halts_token, halts_deep, halts_mixed, halts_end}
-use Rattle.grammar.specs.Parsing.{Read, Says, says_name, says_number, says_field, says_rule, says_mark, says_not, says_pick, says_join, says_sign, says_opening, says_closing, says_comma, says_semicolon, says_colon, says_plus, says_minus, Seen, no_token, a_token, Peeked, Stopped, Came, IsNumber, a_number, NumberRead, TermRead, SumRead}
+use Rattle.grammar.specs.Parsing.{Read, Says, says_name, says_number, says_field, says_rule, says_mark, says_not, says_pick, says_join, says_sign, says_opening, says_closing, says_comma, says_semicolon, says_colon, says_plus, says_minus, Seen, no_token, a_token, Peeked, Stopped, Came, IsNumber, a_number, NumberRead, TermRead, SumRead, ShiftedRead}
 use Rattle.grammar.proofs.Next.{not_summed}
 use Rattle.grammar.proofs.Leaves.{no, refused_at, Stuck, stops, real, seen_as}
 
@@ -140,7 +142,7 @@ module _ (text : List ℕ) where
       (v : WordEntry) (x : Read NumberEntry) {q e : ℕ} {xs : Tokens}
       → NumberRead text e (Ok x)
       → Seen text xs class.Plus q e
-      → SumCame v (entry.Raised v x.value.value) xs x.end
+      → SumCame v (entry.Moved v (Up x.value.value)) xs x.end
   raised_came v x h (a_token {xs = us} says_plus l) =
       let m = h.2 us l in
       record {
@@ -154,7 +156,7 @@ module _ (text : List ℕ) where
       (v : WordEntry) (x : Read NumberEntry) {q e : ℕ} {xs : Tokens}
       → NumberRead text e (Ok x)
       → Seen text xs class.Minus q e
-      → SumCame v (entry.Lowered v x.value.value) xs x.end
+      → SumCame v (entry.Moved v (Down x.value.value)) xs x.end
   lowered_came v x h (a_token {xs = us} says_minus l) =
       let m = h.2 us l in
       record {
@@ -194,7 +196,7 @@ module _ (text : List ℕ) (p : ℕ) (a : Ahead) (h : Peeked text p a) where
   pub constant_read :
       (m : ℕ)
       → a.class ≡ class.Number m
-      → TermRead text p (Ok (record { value = entry.Constant m; end = a.end }))
+      → TermRead text p (Ok (record { value = entry.Number m; end = a.end }))
   constant_read m is =
       let r = real text p a h (λ e. no (cc)) in
       (r.0, r.1, λ xs l. constant_came text (seen_as text p a h is xs l))
@@ -217,37 +219,61 @@ module _ (text : List ℕ) (p : ℕ) (a : Ahead) (h : Peeked text p a) where
       → TermRead text p (Err f)
   term_stops f e z y xs l = stops term f e (h.seen xs l) (λ s. tt) (no_term text z y)
 
-  pub raised_read :
+  raised_read :
       (v : WordEntry) (x : Read NumberEntry)
       → a.class ≡ class.Plus
       → NumberRead text a.end (Ok x)
-      → SumRead text p v (Ok (record { value = entry.Raised v x.value.value; end = x.end }))
+      → SumRead text p v (Ok (record { value = entry.Moved v (Up x.value.value); end = x.end }))
   raised_read v x is k =
       let r = real text p a h (λ e. no (cc)) in
       (omega (arith, r.0, k.0), k.1, λ xs l. raised_came text v x k (seen_as text p a h is xs l))
 
-  pub lowered_read :
+  lowered_read :
       (v : WordEntry) (x : Read NumberEntry)
       → a.class ≡ class.Minus
       → NumberRead text a.end (Ok x)
-      → SumRead text p v (Ok (record { value = entry.Lowered v x.value.value; end = x.end }))
+      → SumRead text p v (Ok (record { value = entry.Moved v (Down x.value.value); end = x.end }))
   lowered_read v x is k =
       let r = real text p a h (λ e. no (cc)) in
       (omega (arith, r.0, k.0), k.1, λ xs l. lowered_came text v x k (seen_as text p a h is xs l))
 
-  pub plus_stops :
+  plus_stops :
       (v : WordEntry) (f : Fault)
       → a.class ≡ class.Plus
       → NumberRead text a.end (Err f)
       → SumRead text p v (Err f)
   plus_stops v f is k xs l = plus_stopped text k (seen_as text p a h is xs l)
 
-  pub minus_stops :
+  minus_stops :
       (v : WordEntry) (f : Fault)
       → a.class ≡ class.Minus
       → NumberRead text a.end (Err f)
       → SumRead text p v (Err f)
   minus_stops v f is k xs l = minus_stopped text k (seen_as text p a h is xs l)
+
+  pub raised_by :
+      (made : ℕ → Shift → Type 0) (v : WordEntry) (r : Result (Read TermEntry) Fault)
+      → a.class ≡ class.Plus
+      → ((m : ℕ) (s : Shift) → made m s → s ≡ Up m)
+      → ShiftedRead made text a.end v r
+      → SumRead text p v r
+  raised_by made v (Ok x) is makes (n, s, m, k, e) =
+      let whole : x ≡ record { value = entry.Moved v (Up n.value.value); end = n.end } =
+      e ∙ ap (λ z. record { value = entry.Moved v z; end = n.end }) (makes _ s m) in
+      subst (λ y. SumRead text p v (Ok y)) (sym whole) (raised_read v n is k)
+  raised_by made v (Err f) is makes k = plus_stops v f is k
+
+  pub lowered_by :
+      (made : ℕ → Shift → Type 0) (v : WordEntry) (r : Result (Read TermEntry) Fault)
+      → a.class ≡ class.Minus
+      → ((m : ℕ) (s : Shift) → made m s → s ≡ Down m)
+      → ShiftedRead made text a.end v r
+      → SumRead text p v r
+  lowered_by made v (Ok x) is makes (n, s, m, k, e) =
+      let whole : x ≡ record { value = entry.Moved v (Down n.value.value); end = n.end } =
+      e ∙ ap (λ z. record { value = entry.Moved v z; end = n.end }) (makes _ s m) in
+      subst (λ y. SumRead text p v (Ok y)) (sym whole) (lowered_read v n is k)
+  lowered_by made v (Err f) is makes k = minus_stops v f is k
 
   pub bare_read :
       (v : WordEntry)

@@ -4,7 +4,7 @@ use Rattle.refusal.specs.declared.Fault.{Fault}
 use Rattle.refusal.specs.Table as table
 use Rattle.formula.specs.declared.Join.{Join}
 use Rattle.grammar.specs.declared.table.Word.{Word as WordEntry}
-use Rattle.grammar.specs.declared.table.Term.TheVariants as entry
+use Rattle.formula.specs.declared.term.Term.TheVariants as entry
 use Rattle.grammar.specs.declared.token.Class.{Class}
 use Rattle.grammar.specs.declared.token.Class.TheVariants as class
 use Rattle.grammar.specs.declared.token.Ahead.{Ahead}
@@ -107,7 +107,7 @@ module _ (text : List ℕ) (d : ℕ) (b a : Table) where
 
   number_came :
       {m q e : ℕ} {xs : Tokens} (x : Read Part)
-      → ComparisonRead text e (entry.Constant m) b a (Ok x)
+      → ComparisonRead text e (entry.Number m) b a (Ok x)
       → Seen text xs (class.Number m) q e
       → UnitCame xs x.value x.end
   number_came x o (a_token {xs = us} says_number l) =
@@ -121,7 +121,7 @@ module _ (text : List ℕ) (d : ℕ) (b a : Table) where
 
   number_stopped :
       {m q e : ℕ} {xs : Tokens} {f : Fault}
-      → ComparisonRead text e (entry.Constant m) b a (Err f)
+      → ComparisonRead text e (entry.Number m) b a (Err f)
       → Seen text xs (class.Number m) q e
       → UnitStopped xs f
   number_stopped o (a_token {xs = us} says_number l) =
@@ -330,7 +330,7 @@ module _ (text : List ℕ) (d p : ℕ) (b a : Table) (h : Ahead) (k : Peeked tex
   pub number_unit :
       (m : ℕ) (r : Result (Read Part) Fault)
       → h.class ≡ class.Number m
-      → ComparisonRead text h.end (entry.Constant m) b a r
+      → ComparisonRead text h.end (entry.Number m) b a r
       → UnitRead text d p b a r
   number_unit m (Ok x) is o =
       let g = real text p h k (λ e. no (cc)) in

@@ -1,6 +1,6 @@
 -- Only private contracts and proofs cite this file: what the inner functions of the parser answer.
 -- They work with places in the text. `Left text p xs` says which tokens are left from a place on.
-use Rattle.std.specs.Prelude.{◌≡◌, ℕ, ◌+◌, ◌-◌, ◌<◌, ◌≤◌, cond, ◌⊎◌, List, [], ◌∷◌, ◌++◌, map, length, take, Option, Some, None, Ok, Err, codes, Result, ◌≢◌}
+use Rattle.std.specs.Prelude.{◌≡◌, ℕ, ◌+◌, ◌-◌, ◌<◌, ◌≤◌, Bool, true, false, cond, ◌⊎◌, List, [], ◌∷◌, ◌++◌, map, length, take, Option, is_some, Some, None, Ok, Err, codes, Result, ◌≢◌}
 use Rattle.std.specs.Str.{bytes_eq}
 use Rattle.arrayvec.specs.ArrayVec.{array_vec_len}
 use Rattle.refusal.specs.declared.Fault.{Fault}
@@ -15,7 +15,9 @@ use Rattle.signs.specs.Tokens.{TokAt}
 use Rattle.signs.specs.Cutting.{CutFrom}
 use Rattle.grammar.specs.declared.table.Word.{Word as WordEntry}
 use Rattle.grammar.specs.declared.table.Number.{Number as NumberEntry}
-use Rattle.grammar.specs.declared.table.Term.{Term as TermEntry}
+use Rattle.formula.specs.declared.term.Shift.{Shift}
+use Rattle.formula.specs.declared.term.Term.TheVariants.{Moved}
+use Rattle.grammar.specs.Tables.{TermEntry}
 use Rattle.grammar.specs.declared.table.Weights.{Weights as WeightsEntry}
 use Rattle.grammar.specs.declared.table.Node.{Node}
 use Rattle.grammar.specs.declared.table.Table.{Table}
@@ -123,7 +125,9 @@ Deeper h d (Ok e) = (0 < d) × (e ≡ d - 1)
 Deeper h d (Err f) = (d ≡ 0) × (f ≡ record { refusal = TooDeep; place = h.place })
 
 -- what is read moves the cursor past it
-abbrev pub Takes : {A : Type 0} → Cursor → Cursor → Result A Fault → (List ℕ → ℕ → Result (Read A) Fault → Type 0) → Type 0
+abbrev pub Takes :
+    {A : Type 0} → Cursor → Cursor → Result A Fault → (List ℕ → ℕ → Result (Read A) Fault → Type 0)
+    → Type 0
 Takes b a r Item = Along b a (λ text. Item text b.at (read_to a.at r))
 
 -- so too where only the place after it is known
@@ -145,8 +149,18 @@ abbrev pub MetAt : Class → Cursor → Cursor → Result ℕ Fault → Ahead �
 MetAt k b a (Ok q) h = (h.class ≡ k) × (q ≡ h.place) × (a.at ≡ h.end)
 MetAt k b a (Err f) h = (h.class ≡ k → ⊥) × (f ≡ record { refusal = TokenNotPermitted; place = h.place })
 
+-- so for the token that the cursor sees
 abbrev pub Met : Class → Cursor → Cursor → Result ℕ Fault → Type 0
 Met k b a r = (h : Ahead) × Sees b h × (a.text.now ≡ b.text.now) × MetAt k b a r h
+
+-- the token ahead, h, is of the class and is passed, and its place is answered; or the cursor stays
+abbrev pub PassedAt : Class → Cursor → Cursor → Option ℕ → Ahead → Type 0
+PassedAt k b a (Some q) h = (h.class ≡ k) × (q ≡ h.place) × (a.at ≡ h.end) × (a.text.now ≡ b.text.now)
+PassedAt k b a None h = (h.class ≡ k → ⊥) × (a ≡ b)
+
+-- so for the token that the cursor sees
+abbrev pub PassedIf : Class → Cursor → Cursor → Option ℕ → Type 0
+PassedIf k b a r = (h : Ahead) × Sees b h × PassedAt k b a r h
 
 -- the name, the number or the sign of comparison that a token is
 abbrev pub name_in : Class → Option WordEntry
@@ -220,6 +234,13 @@ SumRead text p v (Ok x) =
     (w : List ℕ) (i : ℕ) → word_of text v ≡ word w i → IsTerm (at (name w) i ∷ xs) us (term_of text x.value)))
 SumRead text p v (Err f) = (xs : Tokens) → Left text p xs → Stopped text State summed xs f
 
+-- a name and the number at the place, which are one term by what `made` makes of the number
+abbrev pub ShiftedRead : (ℕ → Shift → Type 0) → List ℕ → ℕ → WordEntry → Result (Read TermEntry) Fault → Type 0
+ShiftedRead made text p v (Ok x) =
+    (n : Read NumberEntry) × (s : Shift) × made n.value.value s × NumberRead text p (Ok n)
+    × (x ≡ record { value = Moved v s; end = n.end })
+ShiftedRead made text p v (Err f) = NumberRead text p (Err f)
+
 -- the class of a sign that is asked for, and its kind
 pub data Fixed : Class → Shape → Type 0 where
   fixed_opening : Fixed class.Opening opening_sign
@@ -285,7 +306,8 @@ abbrev pub ItemsRead :
     {X : Type 0} → Listing → (List ℕ → Tokens → Tokens → X → Type 0) → List ℕ → ℕ → Result (Read (Few X)) Fault
     → Type 0
 ItemsRead {X} g Item text p r =
-    Outcome text p State g.before (λ s. s) (Few X) (λ v xs us. (all : List X) × Holds4 X v all × Listed X (Item text) xs us all) r
+    Outcome text p State g.before (λ s. s) (Few X)
+    (λ v xs us. (all : List X) × Holds4 X v all × Listed X (Item text) xs us all) r
 
 abbrev pub term_listing : Listing
 term_listing = record { before = terms; after = more_terms; due = term }
@@ -359,6 +381,15 @@ Measured p (Ok x) =
     (0 < x.value.size) × (p + x.value.size ≤ x.end) × (x.value.joins < x.value.size)
 Measured p (Err f) = Unit {0}
 
+-- what is read moves the cursor past it, has that measure, and adds only entries to the table
+pub record Enters
+    (b a : Cursor) (s t : Table) (r : Result Part Fault)
+    (Item : List ℕ → ℕ → Table → Table → Result (Read Part) Fault → Type 0)
+    : Type 0 where
+  pub grown : Grown s t
+  pub measured : Measured b.at (read_to a.at r)
+  pub value : Takes b a r (λ text p x. Item text p s t x)
+
 -- what may follow a unit: a level, and the open formulas
 abbrev pub Around : Type 0
 Around = Level × Open
@@ -413,7 +444,8 @@ FormulaRead text d l p b a r =
     Outcome text p ((o : Open) × (allowance o ≡ d)) (λ c. a_unit d l c.0) (λ c. more l c.0) Part (λ part xs us.
     FormulaIs text (formula l) d b a part xs us × NoJoin us) r
 
--- LinesKept text t fs rs e: of the lines fs and rs the table keeps those before the first that passes a limit, in e entries
+-- LinesKept text t fs rs e: of the lines fs and rs the table keeps, in e entries, those before the first that passes a
+-- limit
 pub data LinesKept (text : List ℕ) (t : Table) (fs : List Field) (rs : List Rule) (e : ℕ) : Type 0 where
   all_kept :
       t.over ≡ None
@@ -440,9 +472,17 @@ pub data LinesKept (text : List ℕ) (t : Table) (fs : List Field) (rs : List Ru
 abbrev pub Lines : List ℕ → Table → List Field → List Rule → Type 0
 Lines text t fs rs = LinesKept text t fs rs (entered t)
 
--- a line with n parameters and this formula, from the entry s on, passes a limit
-abbrev pub Passing : ℕ → ℕ → Part → Type 0
-Passing s n part = (4 < n) ⊎ ((16 < part.joins) ⊎ (256 < s + part.size))
+-- a line with n parameters and this formula, from the entry s on, exceeds a limit
+abbrev pub Exceeding : ℕ → ℕ → Part → Type 0
+Exceeding s n part = (4 < n) ⊎ ((16 < part.joins) ⊎ (256 < s + part.size))
+
+-- a line from the place p on, which may pass a limit, is kept: none did, and it does not
+-- or it is not, and the first line that passes a limit is noted by its place
+abbrev pub Kept : Table → Table → ℕ → (exceeds kept : Bool) → Type 0
+Kept b a p v true = (is_some b.over ≡ false) × (v ≡ false) × (a ≡ b)
+Kept b a p v false =
+    ((is_some b.over ≡ true) × (a ≡ b))
+    ⊎ ((is_some b.over ≡ false) × (v ≡ true) × (a ≡ record b { over = Some p }))
 
 -- a field line more
 abbrev pub FieldKept : Table → Table → FieldLine → Type 0

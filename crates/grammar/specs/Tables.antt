@@ -6,10 +6,12 @@ use Rattle.formula.specs.declared.Comparison.{Comparison}
 use Rattle.formula.specs.declared.Comparison.TheVariants.{Equal}
 use Rattle.formula.specs.declared.Join.{Join}
 use Rattle.formula.specs.declared.Join.TheVariants.{And, Or}
+use Rattle.grammar.specs.declared.few.Few.{Few}
 use Rattle.grammar.specs.declared.table.Word.{Word as WordEntry}
 use Rattle.grammar.specs.declared.table.Number.{Number as NumberEntry}
-use Rattle.grammar.specs.declared.table.Term.{Term as TermEntry}
-use Rattle.grammar.specs.declared.table.Term.TheVariants.{Constant, Bare, Raised, Lowered}
+use Rattle.formula.specs.declared.term.Shift.TheVariants.{Up, Down}
+use Rattle.formula.specs.declared.term.Term.{Term as TermOf}
+use Rattle.formula.specs.declared.term.Term.TheVariants as entry
 use Rattle.grammar.specs.declared.table.Weights.{Weights as WeightsEntry}
 use Rattle.grammar.specs.declared.table.Node.{Node}
 use Rattle.grammar.specs.declared.table.Node.TheVariants.{Compared, Called, Negated, Picked, Joined}
@@ -29,12 +31,16 @@ word_of text w = word (take w.length (drop w.place text)) w.place
 abbrev pub number_of : NumberEntry → Number
 number_of n = num n.value n.place
 
+-- a term whose name is a span of the text
+abbrev pub TermEntry : Type 0
+TermEntry = TermOf WordEntry
+
 -- a term, with its name read from the text
 abbrev pub term_of : List ℕ → TermEntry → Term
-term_of text (Constant n) = constant n
-term_of text (Bare w) = bare (word_of text w)
-term_of text (Raised w n) = raised (word_of text w) n
-term_of text (Lowered w n) = lowered (word_of text w) n
+term_of text (entry.Number n) = constant n
+term_of text (entry.Bare w) = bare (word_of text w)
+term_of text (entry.Moved w (Up n)) = raised (word_of text w) n
+term_of text (entry.Moved w (Down n)) = lowered (word_of text w) n
 
 -- the weights after a join, if they are written
 abbrev pub weights_of : Option WeightsEntry → Weights
@@ -43,9 +49,13 @@ weights_of (Some v) = given (number_of v.left) (number_of v.right)
 
 -- Formulas
 
+-- the entry that stands where none is used
+abbrev pub blank_node : Node
+blank_node = Compared Equal (entry.Number 0) (entry.Number 0)
+
 -- the entry of that number
 abbrev pub node_at : List Node → ℕ → Node
-node_at nodes i = slice_index_or nodes i (Compared Equal (Constant 0) (Constant 0))
+node_at nodes i = slice_index_or nodes i blank_node
 
 -- Entries text nodes start body f: the entries from start to body are the formula f, and body is the whole
 pub data Entries (text : List ℕ) (nodes : List Node) : (start body : ℕ) → Formula → Type 0 where
@@ -57,11 +67,11 @@ pub data Entries (text : List ℕ) (nodes : List Node) : (start body : ℕ) → 
       → Entries text nodes i i (compared c x y)
   -- the number of terms is the written one, and the first four are kept
   a_call :
-      {i n : ℕ} {v : WordEntry} {w : Word} {ts : List TermEntry} {xs : List Term}
-      → node_at nodes i ≡ Called v n ts
+      {i : ℕ} {v : WordEntry} {w : Word} {ts : Few TermEntry} {xs : List Term}
+      → node_at nodes i ≡ Called v ts
       → word_of text v ≡ w
-      → n ≡ length xs
-      → map (term_of text) (take n ts) ≡ take 4 xs
+      → ts.count ≡ length xs
+      → map (term_of text) (take ts.count ts.items) ≡ take 4 xs
       → Entries text nodes i i (called w xs)
   a_not :
       {s a i : ℕ} {f : Formula}
@@ -308,7 +318,8 @@ abbrev pub SomeFields : List Field → Type 0
 SomeFields [] = ⊥
 SomeFields (f ∷ fs) = Unit {0}
 
--- what every sheet keeps that is read from the tokens of a text: a field line, numbers up to 1,023, nesting up to 16, places that rise
+-- what every sheet keeps that is read from the tokens of a text: a field line, numbers up to 1,023, nesting up to 16,
+-- places that rise
 abbrev pub WellRead : Sheet → Type 0
 WellRead (sheet fs rs (mark_line p f)) =
     SomeFields fs × SmallFields fs × ReadRules rs × ReadFormula f

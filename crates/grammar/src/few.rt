@@ -3,10 +3,10 @@
 ghost use Rattle.std.specs.Prelude.{◌≡◌, ◌+◌, ◌^◌, ◌<◌, List, [], ◌∷◌, ◌++◌};
 ghost use Rattle.grammar.specs.Parsing.{Holds4};
 
-#[derive(Clone, Copy)]
-pub(crate) struct Few<T> {
-    pub(crate) items: [T; 4],
-    pub(crate) count: usize,
+#[derive(Clone, Copy, PartialEq, Eq, Debug)]
+pub struct Few<T> {
+    pub items: [T; 4],
+    pub count: usize,
 }
 
 impl<T: Copy> Few<T> {

@@ -3,11 +3,10 @@
 // with no cursor.
 ghost use Rattle.std.specs.Prelude.{◌≡◌, ◌+◌, ◌<◌, ◌^◌, Decides};
 ghost use Rattle.grammar.specs.Grammar.{Fits, strict};
-ghost use Rattle.grammar.specs.Parsing.{read_to, level_of, around, Takes, Grown, Measured, WeightsRead};
+ghost use Rattle.grammar.specs.Parsing.{level_of, around, Takes, Enters, WeightsRead};
 ghost use Rattle.grammar.specs.Parsing.{ComparisonRead, CallRead, NamedRead, UnitRead, FormulaRead};
 
 use crate::cursor::Cursor;
-use crate::few::Few;
 use crate::table::{Node, Table, Term, Weights, Word};
 use crate::token::Class;
 use formula::Join;
@@ -29,6 +28,17 @@ fn fits(level: Option<Join>, join: Join) -> bool
 }
 
 impl Part {
+    // A formula of one entry: a comparison or a call.
+    fn single(body: u8) -> Part
+        ensures { result ≡ record { body = body; size = 1; joins = 0 } }
+    {
+        Part {
+            body,
+            size: 1,
+            joins: 0,
+        }
+    }
+
     // The formula `body` around this one.
     fn within(self, body: u8) -> Part
         requires { self.size + 1 < 2 ^ 64 }
@@ -65,44 +75,28 @@ fn read_weights(cursor: &mut Cursor<'_>) -> Result<Option<Weights>, Fault>
 
 // The rest of a comparison, after its left term.
 fn read_comparison(cursor: &mut Cursor<'_>, left: Term, table: &mut Table) -> Result<Part, Fault>
-    ensures grown { Grown table.old table.new }
-    ensures measured { Measured cursor.old.at (read_to cursor.new.at result) }
-    ensures value { Takes cursor.old cursor.new result (λ text p r. ComparisonRead text p left table.old table.new r) }
+    ensures { Enters cursor.old cursor.new table.old table.new result (λ text p. ComparisonRead text p left) }
 {
     let sign = cursor.sign()?;
     let right = cursor.term()?;
     let body = table.push(Node::Compared(sign, left, right));
-    Ok(Part {
-        body,
-        size: 1,
-        joins: 0,
-    })
+    Ok(Part::single(body))
 }
 
 // The rest of a call, after its opening bracket.
 fn read_call(cursor: &mut Cursor<'_>, word: Word, table: &mut Table) -> Result<Part, Fault>
-    ensures grown { Grown table.old table.new }
-    ensures measured { Measured cursor.old.at (read_to cursor.new.at result) }
-    ensures value { Takes cursor.old cursor.new result (λ text p r. CallRead text p word table.old table.new r) }
+    ensures { Enters cursor.old cursor.new table.old table.new result (λ text p. CallRead text p word) }
 {
-    let terms = cursor.list(Few::new(Term::Constant(0)))?;
-    let body = table.push(Node::Called(word, terms.count, terms.items));
-    Ok(Part {
-        body,
-        size: 1,
-        joins: 0,
-    })
+    let terms = cursor.list()?;
+    let body = table.push(Node::Called(word, terms));
+    Ok(Part::single(body))
 }
 
 // The rest of a unit that begins with a name: a call or a comparison.
 fn read_named(cursor: &mut Cursor<'_>, word: Word, table: &mut Table) -> Result<Part, Fault>
-    ensures grown { Grown table.old table.new }
-    ensures measured { Measured cursor.old.at (read_to cursor.new.at result) }
-    ensures value { Takes cursor.old cursor.new result (λ text p r. NamedRead text p word table.old table.new r) }
+    ensures { Enters cursor.old cursor.new table.old table.new result (λ text p. NamedRead text p word) }
 {
-    let ahead = cursor.peek();
-    if let Class::Opening = ahead.class {
-        cursor.at = ahead.end;
+    if cursor.pass_if(Class::Opening).is_some() {
         return read_call(cursor, word, table);
     }
     let left = cursor.sum(word)?;
@@ -117,10 +111,8 @@ pub(crate) fn read_formula(
     level: Option<Join>,
     table: &mut Table,
 ) -> Result<Part, Fault>
-    ensures grown { Grown table.old table.new }
-    ensures measured { Measured cursor.old.at (read_to cursor.new.at result) }
-    ensures value { Takes cursor.old cursor.new result (λ text p r.
-        FormulaRead text depth (level_of level) p table.old table.new r) }
+    ensures { Enters cursor.old cursor.new table.old table.new result (λ text p.
+        FormulaRead text depth (level_of level) p) }
 {
     let left = read_unit(cursor, depth, table)?;
     let ahead = cursor.peek();
@@ -144,15 +136,13 @@ pub(crate) fn read_formula(
 // A unit with at most `depth` levels in it.
 #[cycle(read_formula_read_unit)]
 fn read_unit(cursor: &mut Cursor<'_>, depth: u8, table: &mut Table) -> Result<Part, Fault>
-    ensures grown { Grown table.old table.new }
-    ensures measured { Measured cursor.old.at (read_to cursor.new.at result) }
-    ensures value { Takes cursor.old cursor.new result (λ text p r. UnitRead text depth p table.old table.new r) }
+    ensures { Enters cursor.old cursor.new table.old table.new result (λ text p. UnitRead text depth p) }
 {
     let ahead = cursor.peek();
     match ahead.class {
         Class::Number(value) => {
             cursor.at = ahead.end;
-            read_comparison(cursor, Term::Constant(value), table)
+            read_comparison(cursor, Term::Number(value), table)
         }
         Class::Name(word) => {
             cursor.at = ahead.end;

@@ -3,7 +3,7 @@
 
 mod body;
 mod cursor;
-mod few;
+pub mod few;
 mod fill;
 mod formula_part;
 mod line;

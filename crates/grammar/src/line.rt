@@ -11,7 +11,7 @@ use crate::token::Class;
 use refusal::Fault;
 
 // The name of a rule and its parameters.
-#[derive(Clone, Copy)]
+#[derive(Clone, Copy, PartialEq, Eq, Debug)]
 pub(crate) struct Head {
     pub(crate) name: Word,
     pub(crate) params: Few<Word>,
@@ -23,7 +23,7 @@ fn read_head(cursor: &mut Cursor<'_>) -> Result<Head, Fault>
 {
     let name = cursor.name()?;
     cursor.expect(Class::Opening)?;
-    let params = cursor.list(Few::new(Word::default()))?;
+    let params = cursor.list()?;
     cursor.expect(Class::Colon)?;
     Ok(Head { name, params })
 }

@@ -1,7 +1,7 @@
 // Lists in brackets: the terms of a call, and the parameters of a rule.
-ghost use Rattle.std.specs.Prelude.{ℕ, List, []};
+ghost use Rattle.std.specs.Prelude.{ℕ, List};
 ghost use Rattle.grammar.specs.Grammar.{Tokens};
-ghost use Rattle.grammar.specs.Parsing.{Takes, Holds4, Listing, Brackets, ItemRead, ItemsRead};
+ghost use Rattle.grammar.specs.Parsing.{Takes, Listing, Brackets, ItemRead, ItemsRead};
 ghost use Rattle.grammar.specs.Parsing.{term_listing, name_listing, TermAt, NameAt};
 ghost use Rattle.grammar.specs.Listings.{term_brackets, name_brackets};
 
@@ -18,6 +18,9 @@ pub(crate) trait Item: Copy {
 
     ghost is_item: { List ℕ → Tokens → Tokens → Self → Type 0 };
 
+    // what stands where no item is kept
+    const BLANK: Self;
+
     fn take(cursor: &mut Cursor<'_>) -> Result<Self, Fault>
         ensures { Takes cursor.old cursor.new result (ItemRead listing is_item) };
 
@@ -31,6 +34,8 @@ impl Item for Term {
 
     ghost brackets = { term_brackets };
 
+    const BLANK: Term = Term::Number(0);
+
     fn take(cursor: &mut Cursor<'_>) -> Result<Term, Fault> {
         cursor.term()
     }
@@ -43,20 +48,23 @@ impl Item for Word {
 
     ghost brackets = { name_brackets };
 
+    const BLANK: Word = Word {
+        place: 0,
+        length: 0,
+    };
+
     fn take(cursor: &mut Cursor<'_>) -> Result<Word, Fault> {
         cursor.name()
     }
 }
 
 impl Cursor<'_> {
-    // The items, parted by commas, and the closing bracket, into a list without items.
-    pub(crate) fn list<T: Item>(&mut self, mut list: Few<T>) -> Result<Few<T>, Fault>
-        requires { Holds4 T list [] }
+    // The items, parted by commas, and the closing bracket.
+    pub(crate) fn list<T: Item>(&mut self) -> Result<Few<T>, Fault>
         ensures { Takes self.old self.new result (ItemsRead T.listing T.is_item) }
     {
-        let ahead = self.peek();
-        if let Class::Closing = ahead.class {
-            self.at = ahead.end;
+        let mut list = Few::new(T::BLANK);
+        if self.pass_if(Class::Closing).is_some() {
             return Ok(list);
         }
         loop {

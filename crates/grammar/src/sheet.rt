@@ -1,6 +1,6 @@
 // A sheet: field lines, rule lines and the mark line.
-// The loops over field lines and over rule lines stay two: what they keep of the table differs, and a trait that says
-// it, with the word, the state and the reader of each line, is longer than both.
+// The loops over field lines and over rule lines stay two: each is one line, and one loop for both would take the word,
+// the reader of a line and what it keeps of the table, and be called twice.
 ghost use Rattle.std.specs.Prelude.{◌≡◌, ℕ, List, [], None};
 ghost use Rattle.grammar.specs.Answers.{Parsed};
 ghost use Rattle.grammar.specs.Tables.{LinesAbove};
@@ -26,28 +26,20 @@ fn read_fields(cursor: &mut Cursor<'_>, table: &mut Table) -> Result<(), Fault>
     ensures entries { table.new.nodes ≡ table.old.nodes }
     ensures value { Passes cursor.old cursor.new result (λ text p r. FieldsRead text p table.old table.new r) }
 {
-    loop {
-        let ahead = cursor.peek();
-        let Class::Field = ahead.class else {
-            return Ok(());
-        };
-        cursor.at = ahead.end;
-        read_field(cursor, ahead.place, table)?;
+    while let Some(first) = cursor.pass_if(Class::Field) {
+        read_field(cursor, first, table)?;
     }
+    Ok(())
 }
 
 // The rule lines that follow.
 fn read_rules(cursor: &mut Cursor<'_>, table: &mut Table) -> Result<(), Fault>
     ensures { Passes cursor.old cursor.new result (λ text p r. RulesRead text p table.old table.new r) }
 {
-    loop {
-        let ahead = cursor.peek();
-        let Class::Rule = ahead.class else {
-            return Ok(());
-        };
-        cursor.at = ahead.end;
-        read_rule(cursor, ahead.place, table)?;
+    while let Some(first) = cursor.pass_if(Class::Rule) {
+        read_rule(cursor, first, table)?;
     }
+    Ok(())
 }
 
 // The lines of a sheet, into a table without lines.

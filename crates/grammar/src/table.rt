@@ -2,9 +2,9 @@
 // A spelling is kept as a span of the text, so that a table borrows nothing. What a table stands for is said in
 // specs/Tables.antt.
 ghost use Rattle.std.specs.Prelude.{◌≡◌, ℕ, List, [], None};
-ghost use Rattle.grammar.specs.declared.table.Node.TheVariants.{Negated};
-ghost use Rattle.grammar.specs.Tables.{LinesAbove};
+ghost use Rattle.grammar.specs.Tables.{LinesAbove, blank_node};
 
+use crate::few::Few;
 use arrayvec::ArrayVec;
 use formula::{Comparison, Join};
 
@@ -22,14 +22,8 @@ pub struct Number {
     pub place: usize,
 }
 
-// A number, a name, or a name with `+` or `-` and a number.
-#[derive(Clone, Copy, PartialEq, Eq, Debug)]
-pub enum Term {
-    Constant(u16),
-    Bare(Word),
-    Raised(Word, u16),
-    Lowered(Word, u16),
-}
+// A term whose name is a span of the text.
+pub type Term = formula::term::Term<Word>;
 
 // The weights after a join.
 #[derive(Clone, Copy, PartialEq, Eq, Debug)]
@@ -39,12 +33,13 @@ pub struct Weights {
 }
 
 // A formula whose parts are entries of the same table, by their numbers: nothing is allocated, so no part is boxed.
-// The parts stand before the whole. A call has the called name, how many terms are written, and the first four of
-// them: a fifth need not be kept, since such a call is at fault at its name, before its terms.
+// The parts stand before the whole. Of a call's terms a fifth need not be kept, since such a call is at fault at its
+// name, before its terms. No one generic node serves here and in a sheet, as one term does: names, rules, counts and
+// weights differ, and it would have four parameters.
 #[derive(Clone, Copy, PartialEq, Eq, Debug)]
 pub enum Node {
     Compared(Comparison, Term, Term),
-    Called(Word, usize, [Term; 4]),
+    Called(Word, Few<Term>),
     Negated(u8),
     Picked(Word, u8),
     Joined(Join, Option<Weights>, u8, u8),
@@ -88,12 +83,12 @@ pub struct Table {
     pub over: Option<usize>,
 }
 
-// The entry that stands where none is used yet.
+// The entry that stands where none is used.
 impl Default for Node {
-    ghost is_default = { λ node. node ≡ Negated 0 };
+    ghost is_default = { λ node. node ≡ blank_node };
 
     fn default() -> Node {
-        Node::Negated(0)
+        Node::Compared(Comparison::Equal, Term::Number(0), Term::Number(0))
     }
 }
 

@@ -1,9 +1,11 @@
-// Terms.
-ghost use Rattle.grammar.specs.Parsing.{Takes, TermRead, SumRead};
+// A term: a number, or a name that a number may move.
+ghost use Rattle.std.specs.Prelude.{◌≤◌, length};
+ghost use Rattle.grammar.specs.Parsing.{Takes, TermRead, SumRead, ShiftedRead};
 
 use crate::cursor::Cursor;
 use crate::table::{Term, Word};
 use crate::token::Class;
+use formula::term::Shift;
 use refusal::Fault;
 
 impl Cursor<'_> {
@@ -15,7 +17,7 @@ impl Cursor<'_> {
         match ahead.class {
             Class::Number(value) => {
                 self.at = ahead.end;
-                Ok(Term::Constant(value))
+                Ok(Term::Number(value))
             }
             Class::Name(word) => {
                 self.at = ahead.end;
@@ -26,23 +28,30 @@ impl Cursor<'_> {
     }
 
     // The term whose name is `word`: with the `+` or `-` and the number that follow it, if they do.
-    // Two arms stay: one for both needs a flag, and a second choice by the flag, and is no shorter.
     pub(crate) fn sum(&mut self, word: Word) -> Result<Term, Fault>
         ensures { Takes self.old self.new result (λ text p r. SumRead text p word r) }
     {
         let ahead = self.peek();
         match ahead.class {
-            Class::Plus => {
-                self.at = ahead.end;
-                let number = self.number()?;
-                Ok(Term::Raised(word, number.value))
-            }
-            Class::Minus => {
-                self.at = ahead.end;
-                let number = self.number()?;
-                Ok(Term::Lowered(word, number.value))
-            }
+            Class::Plus => self.shifted(word, ahead.end, Shift::Up),
+            Class::Minus => self.shifted(word, ahead.end, Shift::Down),
             _ => Ok(Term::Bare(word)),
         }
+    }
+
+    // The term whose name is `word`, with the number at `from`, which `shift` adds or takes away.
+    fn shifted<F: FnOnce(u16) -> Shift>(
+        &mut self,
+        word: Word,
+        from: usize,
+        shift: F,
+    ) -> Result<Term, Fault>
+        requires callable { F.IsAlwaysCallable shift }
+        requires inside { from ≤ length self.old.text.now }
+        ensures { Takes self.old self.new result (λ text p r. ShiftedRead (F.post shift) text from word r) }
+    {
+        self.at = from;
+        let number = self.number()?;
+        Ok(Term::Moved(word, shift(number.value)))
     }
 }

@@ -2,7 +2,8 @@
 ghost use Rattle.std.specs.Prelude.{◌≡◌, ◌≤◌, length};
 ghost use Rattle.refusal.specs.declared.Refusal.TheVariants.{TokenNotPermitted};
 ghost use Rattle.grammar.specs.Parsing.{class_of_word, class_of_sign, name_in, number_in, sign_in};
-ghost use Rattle.grammar.specs.Parsing.{Sees, Deeper, Finds, Takes, Passes, Asked, Met, NameRead, NumberRead, SignRead};
+ghost use Rattle.grammar.specs.Parsing.{Sees, Deeper, Finds, Takes, Passes, PassedIf, Asked, Met};
+ghost use Rattle.grammar.specs.Parsing.{NameRead, NumberRead, SignRead};
 
 use crate::cursor::Cursor;
 use crate::table::{Number, Word};
@@ -11,7 +12,8 @@ use refusal::{Fault, Refusal};
 use signs::{Sign, Token};
 
 // What a token is to the grammar: seven words are reserved, and every other word is a name.
-// Each sign is a case, and no case holds a `Sign`: so a match names a sign by one word.
+// Each sign is a case, and no case holds a `Sign`. Tried: with `Class::Sign(Sign::Open)` as a pattern, the proofs of
+// the arms that name a sign did not close.
 #[derive(Clone, Copy, PartialEq, Eq, Debug)]
 pub(crate) enum Class {
     End,
@@ -82,7 +84,7 @@ impl Ahead {
         Refusal::TokenNotPermitted.at(self.place)
     }
 
-    // The levels that are allowed within the one that this token opens, of `depth` with it.
+    // The levels left within the one that this token opens, if `depth` allows one.
     pub(crate) fn deeper(self, depth: u8) -> Result<u8, Fault>
         ensures { Deeper self depth result }
     {
@@ -90,6 +92,7 @@ impl Ahead {
     }
 }
 
+// The class of a word, by its spelling. No `From`: a name takes its place along, which its bytes do not tell.
 fn word_class(word: &[u8], place: usize) -> Class
     ensures { result ≡ class_of_word word.now place }
 {
@@ -164,7 +167,20 @@ impl Cursor<'_> {
         Ok(value)
     }
 
-    // Passes a token that the grammar asks for by itself, and answers its place.
+    // Passes the token ahead if it is of the class, and answers its place.
+    pub(crate) fn pass_if(&mut self, class: Class) -> Option<usize>
+        ensures { PassedIf class self.old self.new result }
+    {
+        let ahead = self.peek();
+        if ahead.class != class {
+            return None;
+        }
+        self.at = ahead.end;
+        Some(ahead.place)
+    }
+
+    // Passes a token that the grammar asks for by itself, and answers its place. Not by `pass_if` nor by `take`: the
+    // one tells no place of a token that it does not pass, and the other asks what is in a token, not which it is.
     pub(crate) fn expect(&mut self, class: Class) -> Result<usize, Fault>
         ensures asked { Passes self.old self.new result (Asked class) }
         ensures met { Met class self.old self.new result }

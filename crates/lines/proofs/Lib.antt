@@ -1,3 +1,4 @@
+pub mod Folding
 pub mod InPlace
 pub mod Parted
 pub mod Putting

@@ -115,18 +115,7 @@ pub put_all :
 put_all f {a} {b} {at} {m} xs i past whole =
     subst (λ l. Put a at (flat_map f l) b m) (take_all i xs past) whole
 
--- where the room that is left is too small for the next item's text, the room is too small for all
-pub no_room :
-    {A : Type 0} (f : A → List ℕ) (xs : List A) (i left room : ℕ) (d : A)
-    → i < length xs
-    → left + length (flat_map f (take i xs)) ≡ room
-    → (length (f (get_or xs i d)) ≤ left → ⊥)
-    → length (flat_map f xs) ≤ room
-    → ⊥
-no_room f xs i left room d inside so_far short fits =
-    short (omega (arith, length-flat_map-take f xs i d inside))
-
--- and where the text of all fits the buffer, the next item's text does
+-- where the text of all fits the buffer, the next item's text does
 pub fits_more :
     {A : Type 0} (f : A → List ℕ) {a b : List ℕ} {at m : ℕ} (xs : List A) (i : ℕ) (d : A)
     → i < length xs

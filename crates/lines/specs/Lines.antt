@@ -1,4 +1,4 @@
--- The lines that a program prints, as lists of bytes, and what a call that makes one leaves in a buffer.
+-- Lines on marks, sheets, texts and walks, as lists of bytes, and what a call that makes one leaves in a buffer.
 -- Every number stands in decimal without needless zeros, and a line ends with a line feed.
 use Rattle.std.specs.Prelude.{◌≡◌, ℕ, ◌<◌, ◌≤◌, List, [], ◌∷◌, ◌++◌, length, drop, Ok, Err, codes, decimal, Result}
 use Rattle.refusal.specs.Table.{number, layer}

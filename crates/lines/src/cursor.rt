@@ -1,12 +1,13 @@
-// A buffer of the caller's, and how far it is written, from its front on. Each line ends as the length written, as with
-// `Write::write`, beside the caller's own buffer.
-ghost use Rattle.std.specs.Prelude.{◌≡◌, ◌+◌, ◌≤◌, map, length, replicate};
+// A buffer of the caller's, and how far it is written, from its front on. No `io::Cursor<&mut [u8]>`: its `write`
+// answers an `io::Result` of how many bytes had room, and here room is known before the first byte is put. It has no
+// equality, since only the front of its buffer means something.
+ghost use Rattle.std.specs.Prelude.{◌≡◌, ◌≤◌, map, length, replicate};
 ghost use Rattle.lines.specs.Pieces.{shown};
-ghost use Rattle.lines.specs.Putting.{Put};
+ghost use Rattle.lines.specs.Putting.{HasRoom, Written};
 
 use itoa::{Buffer, Integer};
 
-#[derive(Drop)]
+#[derive(Debug, Drop)]
 pub(crate) struct Cursor<'a> {
     pub(crate) out: &'a mut [u8],
     pub(crate) at: usize,
@@ -14,9 +15,8 @@ pub(crate) struct Cursor<'a> {
 
 impl Cursor<'_> {
     pub(crate) fn bytes(&mut self, codes: &[u8])
-        requires { self.old.at + length codes.now ≤ length self.old.out.now }
-        ensures put { Put self.old.out.now self.old.at codes.now self.new.out.now self.new.at }
-        ensures same_buffer { self.new.out.ghost_name ≡ self.old.out.ghost_name }
+        requires { HasRoom self.old (length codes.now) }
+        ensures { Written self.old codes.now self.new }
     {
         let to = self.at + codes.len();
         self.out[self.at..to].copy_from_slice(codes);
@@ -24,17 +24,15 @@ impl Cursor<'_> {
     }
 
     pub(crate) fn number<I: Integer>(&mut self, value: I)
-        requires { self.old.at + length (I.text value) ≤ length self.old.out.now }
-        ensures put { Put self.old.out.now self.old.at (I.text value) self.new.out.now self.new.at }
-        ensures same_buffer { self.new.out.ghost_name ≡ self.old.out.ghost_name }
+        requires { HasRoom self.old (length (I.text value)) }
+        ensures { Written self.old (I.text value) self.new }
     {
         self.bytes(Buffer::new().format(value).as_bytes());
     }
 
     pub(crate) fn blanks(&mut self, count: usize)
-        requires { self.old.at + count ≤ length self.old.out.now }
-        ensures put { Put self.old.out.now self.old.at (replicate count 32) self.new.out.now self.new.at }
-        ensures same_buffer { self.new.out.ghost_name ≡ self.old.out.ghost_name }
+        requires { HasRoom self.old count }
+        ensures { Written self.old (replicate count 32) self.new }
     {
         let to = self.at + count;
         self.out[self.at..to].fill(b' ');
@@ -43,9 +41,8 @@ impl Cursor<'_> {
 
     // The bytes as they are shown.
     pub(crate) fn shown_bytes(&mut self, codes: &[u8])
-        requires { self.old.at + length codes.now ≤ length self.old.out.now }
-        ensures put { Put self.old.out.now self.old.at (map shown codes.now) self.new.out.now self.new.at }
-        ensures same_buffer { self.new.out.ghost_name ≡ self.old.out.ghost_name }
+        requires { HasRoom self.old (length codes.now) }
+        ensures { Written self.old (map shown codes.now) self.new }
     {
         let from = self.at;
         self.bytes(codes);

@@ -1,4 +1,4 @@
-// The bytes of each line that a program prints, made in a buffer of the caller's. Each line has a function of its
+// Lines on marks, sheets, texts and walks, each as bytes in a buffer of the caller's. Each line has a function of its
 // own, with its text as the contract: one that took the words as well would be `write` again. It is no `Display`: these
 // are proved bytes, whole or not at all, in a buffer of the caller's. A function answers how many it wrote, as
 // `Write::write` does.
@@ -10,7 +10,7 @@ ghost use Rattle.lines.specs.Lines.{not_allowed_text, refused_text, signs_text, 
 ghost use Rattle.lines.specs.Reading.{LinesDiffer, ReadBack, numbers_of};
 
 use piece::Piece::{Number, Numbers, Text};
-use refusal::{Fault, Refusal};
+use refusal::{Fault, Layer, Refusal};
 
 mod cursor;
 mod numbers;
@@ -120,10 +120,11 @@ pub fn refused_line(refusal: Refusal, out: &mut [u8]) -> Result<usize, Refusal>
 pub fn fault_line(fault: Fault, out: &mut [u8]) -> Result<usize, Refusal>
     ensures { Made (fault_text fault) out.old out.new result }
 {
+    let layer = fault.refusal.layer().map_or(0, Layer::number);
     // std has no `From<usize>` for `u64`, so the place is cast
     let line = [
         Text(b"fault "),
-        Number(u64::from(fault.refusal.layer())),
+        Number(u64::from(layer)),
         Text(b" "),
         Number(u64::from(fault.refusal.number())),
         Text(b" "),

@@ -1,7 +1,7 @@
 // The pieces that a line is made of.
-ghost use Rattle.std.specs.Prelude.{◌≡◌, ◌+◌, ◌-◌, ◌≤◌, length, SomeIff};
+ghost use Rattle.std.specs.Prelude.{◌-◌, ◌≤◌, length, SomeIff};
 ghost use Rattle.lines.specs.Pieces.{bytes_of};
-ghost use Rattle.lines.specs.Putting.{Put};
+ghost use Rattle.lines.specs.Putting.{HasRoom, Written};
 
 use crate::cursor::{Cursor, width};
 use crate::numbers;
@@ -32,9 +32,8 @@ impl Piece<'_> {
 
     // Writes it where the cursor stands.
     pub(crate) fn put(self, cursor: &mut Cursor)
-        requires { cursor.old.at + length (bytes_of self) ≤ length cursor.old.out.now }
-        ensures put { Put cursor.old.out.now cursor.old.at (bytes_of self.entry) cursor.new.out.now cursor.new.at }
-        ensures same_buffer { cursor.new.out.ghost_name ≡ cursor.old.out.ghost_name }
+        requires { HasRoom cursor.old (length (bytes_of self)) }
+        ensures { Written cursor.old (bytes_of self.entry) cursor.new }
     {
         match self {
             Piece::Text(bytes) => cursor.bytes(bytes),

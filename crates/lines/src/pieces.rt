@@ -20,13 +20,11 @@ pub fn write(pieces: &[Piece], out: &mut [u8]) -> Result<usize, Refusal>
 }
 
 // What the pieces leave of the room, or none where the room is too small. It is counted down, since the length of
-// all pieces may pass a `usize`. By a `for` with `?`: `try_fold` would put its one line into a closure, no plainer.
+// all pieces may pass a `usize`.
 fn room_after(pieces: &[Piece], room: usize) -> Option<usize>
     ensures { SomeIff result (length (text_of pieces.now) ≤ room) (room - length (text_of pieces.now)) }
 {
-    let mut left = room;
-    for piece in pieces {
-        left = piece.room_after(left)?;
-    }
-    Some(left)
+    pieces
+        .iter()
+        .try_fold(room, |left, piece| piece.room_after(left))
 }

@@ -24,7 +24,6 @@ const FIELDS: usize = 8;
 const LINE: usize = 128;
 
 fn main(rt: HostRuntime) -> io::Result<()> {
-    // Each program reads its text by these lines: a function of a library for them would allocate.
     let mut text = vec![in rt.alloc(); 0u8; TEXT_ROOM]?;
     let size = streams::fill(&mut rt.stdin(), &mut text)?;
     text.truncate(size);

@@ -1,7 +1,7 @@
 -- The numbers below a bound that pass a test: how many there are, where each stands, and that they ascend.
 use Rattle.std.proofs.Common.{◌≡◌, ℕ, zero, suc, ◌+◌, ◌<◌, ◌≤◌, Bool, true, false, cond, ◌⊎◌, List, [], ◌∷◌, ◌++◌, length, get_or, Decides, sym, refl, ap, ◌∙◌, subst, inl, inr, ⊎_elim, append-nil, add-one, arith}
 use Rattle.std.proofs.lemmas.List.{length_push, get_or_push, get_or_append_left}
-use Rattle.std.proofs.lemmas.Bool.{cases_eq, cases_Bool}
+use Rattle.std.proofs.lemmas.Bool.{cases_eq, cases_Bool, both_ways}
 use Rattle.std.proofs.lemmas.Bool.Decides.{Decides-below_or}
 use Rattle.marks.specs.Sets.{In, Ascending}
 use Rattle.marks.specs.Counted.{below, any_below}
@@ -85,8 +85,7 @@ module _ (p : ℕ → Bool) where
       ) in
       stepped (λ _. At) t
       (λ y. ⊎_elim last (λ q. more (omega arith) y) (cases_eq k t))
-      (λ n. ⊎_elim (λ q. let z : ◌≡◌ {A = Bool} true false = sym e ∙ ap p q ∙ n in
-      absurd (let w : ◌≡◌ {A = ℕ} 0 1 = cc in omega arith))
+      (λ n. ⊎_elim (λ q. absurd (both_ways _ n (ap p (sym q) ∙ e)))
       (λ q. below_at t k (omega arith) e) (cases_eq k t))
 
   -- the list has just the numbers that pass, and ascends
@@ -107,8 +106,7 @@ module _ (p : ℕ → Bool) where
       stepped (λ _ xs. In v xs) t
       (λ y. in_pushed (below p t) t v
       (⊎_elim (λ q. inr q) (λ q. inl (in_below t v (omega arith) e)) (cases_eq v t)))
-      (λ n. ⊎_elim (λ q. let z : ◌≡◌ {A = Bool} true false = sym e ∙ ap p q ∙ n in
-      absurd (let w : ◌≡◌ {A = ℕ} 0 1 = cc in omega arith))
+      (λ n. ⊎_elim (λ q. absurd (both_ways _ n (ap p (sym q) ∙ e)))
       (λ q. in_below t v (omega arith) e) (cases_eq v t))
 
   pub below_ascending : (top : ℕ) → Ascending (below p top)

@@ -2,10 +2,7 @@
 use Rattle.std.proofs.Common.{◌≡◌, ℕ, zero, suc, ◌<◌, ◌≤◌, Bool, true, false, ◌&&◌, eqb, List, [], ◌∷◌, length, get_or, sym, refl, ap, ◌∙◌, subst, inl, inr, ⊎_elim, arith}
 use Rattle.std.proofs.ByRecursion.{All-get_or}
 use Rattle.std.proofs.lemmas.Bool.{and_from, and_parts, eqb-true, eq-eqb, lt-ltb, le-ltb, cases_Bool, cases_lt, both_ways, cond-true, cond-false}
-use Rattle.formula.specs.declared.Comparison.{Comparison}
-use Rattle.formula.specs.declared.Comparison.TheVariants.{Equal}
-use Rattle.formula.specs.Comparing.{holds}
-use Rattle.marks.specs.Sets.{Marks, Shaped, MarksOf, Empty, kept, In, Values}
+use Rattle.marks.specs.Sets.{Marks, Shaped, MarksOf, Empty, In, Values}
 use Rattle.marks.specs.Counted.{below, some, takes, values, Taken}
 use Rattle.marks.proofs.Below.{any_below_decides, below_in, in_below, below_ascending, below_same, below_none, length_le}
 
@@ -34,9 +31,6 @@ empty_some n S h = ⊎_elim (λ t. let r = some_sound n S t in absurd (h r.0 r.2
 
 pub none_empty : (n : ℕ) (S : Marks) → MarksOf n S → some n S ≡ false → Empty S
 none_empty n S sh e m g = both_ways _ e (some_complete n S m (sh m g) g)
-
-pub some_not_empty : (n : ℕ) (S : Marks) → some n S ≡ true → Empty S → ⊥
-some_not_empty n S t h = let r = some_sound n S t in h r.0 r.2
 
 -- takes
 
@@ -113,18 +107,7 @@ values_are n S f sh h =
 pub values_taken : (n : ℕ) (S : Marks) (f : ℕ) → MarksOf n S → Taken n S f (values n S f)
 values_taken n S f sh = (values_are n S f sh, values_outside n S f)
 
--- Marks kept by a value of their field
-
 pub in_get_or : (vs : List ℕ) (k : ℕ) → k < length vs → In (get_or vs k 0) vs
 in_get_or [] k h = absurd (omega arith)
 in_get_or (x ∷ xs) zero h = inl refl
 in_get_or (x ∷ xs) (suc k) h = inr (in_get_or xs k (omega arith))
-
--- a keep leaves marks of n fields
-pub kept_of : (n : ℕ) (S : Marks) (f : ℕ) (c : Comparison) (k : ℕ) → MarksOf n S → MarksOf n (kept S f c k)
-kept_of n S f c k sh m e = sh m (and_parts (S m) (holds c (get_or m f 0) k) e).0
-
--- a keep of one of the values leaves a mark
-pub kept_some : (n : ℕ) (S : Marks) (f v : ℕ) → In v (values n S f) → some n (kept S f Equal v) ≡ true
-unfolding takes
-kept_some n S f v i = (value_taken n S f v i).2

@@ -1,6 +1,6 @@
 -- The marks that lie in some ranges, listed.
-use Rattle.std.proofs.Common.{◌≡◌, ℕ, zero, suc, ◌+◌, ◌-◌, ◌<◌, ◌≤◌, Bool, true, ◌&&◌, List, [], ◌∷◌, length, get_or, sym, refl, ap, ◌∙◌, subst, inl, inr, arith, ltb-false}
-use native.Mathlib.Decide.{ℕ_discrete}
+use Rattle.std.proofs.Common.{◌≡◌, ℕ, zero, suc, ◌+◌, ◌-◌, ◌<◌, ◌≤◌, Bool, true, ◌&&◌, List, [], ◌∷◌, length, get_or, sym, refl, ap, ◌∙◌, subst, inl, inr, ⊎_elim, arith, ltb-false}
+use Rattle.std.proofs.lemmas.Bool.{and_parts, cases_eq}
 use borrow.Author.Tests.{not-true}
 use Rattle.formula.specs.declared.Comparison.TheVariants.{AtMost, AtLeast}
 use Rattle.formula.specs.Comparing.{holds}
@@ -8,7 +8,6 @@ use Rattle.formula.specs.Trees.{Range, range}
 use Rattle.marks.specs.Sets.{Marks, In}
 use Rattle.meaning.specs.Reading.{ranged}
 use Rattle.meaning.specs.Runs.{inside}
-use Rattle.meaning.proofs.Basics.{and_left, and_right}
 use Rattle.meaning.proofs.Counting.{Counted}
 use Rattle.meaning.proofs.Listed.{Mem, counted_list}
 
@@ -33,12 +32,9 @@ box [] = [] ∷ []
 box (range low high ∷ rs) = spread (from (suc high - low) low) (box rs)
 
 in_from : (n a v : ℕ) → a ≤ v → v < a + n → In v (from n a)
-in_from zero a v h g = absurd (let z : ⊥ = omega arith in z)
-in_from (suc n) a v h g = go (ℕ_discrete v a) (λ l. in_from n (suc a) v l (omega arith))
-  where
-    go : Dec (v ≡ a) → (suc a ≤ v → In v (from n (suc a))) → In v (a ∷ from n (suc a))
-    go (yes p) f = inl p
-    go (no p) f = inr (f (omega arith))
+in_from zero a v h g = absurd (omega arith)
+in_from (suc n) a v h g =
+    ⊎_elim (λ p. inl p) (λ q. inr (in_from n (suc a) v (omega arith) (omega arith))) (cases_eq v a)
 
 onto_has : (v : ℕ) (m : List ℕ) (l r : List (List ℕ)) → Mem m l → Mem (v ∷ m) (onto v l r)
 onto_has v m [] r i = absurd i
@@ -64,13 +60,13 @@ ranged_past (range low high ∷ rs) f x m =
 
 pub in_box : (rs : List Range) (m : List ℕ) → length m ≡ length rs → ranged rs 0 m ≡ true → Mem m (box rs)
 in_box [] [] e h = inl refl
-in_box [] (x ∷ m) e h = absurd (let z : ⊥ = omega arith in z)
-in_box (r ∷ rs) [] e h = absurd (let z : ⊥ = omega arith in z)
+in_box [] (x ∷ m) e h = absurd (omega arith)
+in_box (r ∷ rs) [] e h = absurd (omega arith)
 in_box (range low high ∷ rs) (x ∷ m) e h =
-    let here = and_left (holds AtLeast x low && holds AtMost x high) _ h in
-    let past = and_right (holds AtLeast x low && holds AtMost x high) _ h in
-    let low_end = ltb-false x low (not-true _ (and_left (holds AtLeast x low) _ here)) in
-    let high_end = ltb-false high x (not-true _ (and_right (holds AtLeast x low) _ here)) in
+    let here = (and_parts (holds AtLeast x low && holds AtMost x high) _ h).0 in
+    let past = (and_parts (holds AtLeast x low && holds AtMost x high) _ h).1 in
+    let low_end = ltb-false x low (not-true _ (and_parts (holds AtLeast x low) _ here).0) in
+    let high_end = ltb-false high x (not-true _ (and_parts (holds AtLeast x low) _ here).1) in
     in_spread (from (suc high - low) low) (box rs) x m (in_from (suc high - low) low x low_end (omega arith))
     (in_box rs m (omega arith) (sym (ranged_past rs 0 x m) ∙ past))
 
@@ -78,5 +74,5 @@ in_box (range low high ∷ rs) (x ∷ m) e h =
 unfoldable pub counted_box :
     (S : Marks) (rs : List Range) → ((m : List ℕ) → S m ≡ true → length m ≡ length rs) → Counted (inside S rs)
 counted_box S rs long =
-    counted_list (box rs) (inside S rs) (λ m h. in_box rs m (long m (and_left (S m) _ h))
-    (and_right (S m) _ h))
+    counted_list (box rs) (inside S rs) (λ m h. in_box rs m (long m (and_parts (S m) _ h).0)
+    (and_parts (S m) _ h).1)

@@ -1,5 +1,6 @@
 -- Each mark that reads as the target is found.
 use Rattle.std.proofs.Common.{◌≡◌, ℕ, Bool, true, not, List, [], ◌∷◌, ◌++◌, map, length, get_or, sym, refl, ap, ◌∙◌, subst, ap₂, arith, eq-eqb}
+use Rattle.std.proofs.lemmas.Bool.{and_from}
 use mathlib.Core.Bool.{Bool-discrete, not-not}
 use Rattle.formula.specs.Trees.{Term, num, bare, moved, Formula, compare, join, Rule}
 use Rattle.formula.specs.Comparing.{holds}
@@ -16,7 +17,7 @@ use Rattle.meaning.specs.Matching.{Unknown, LeavesOne, left_first, at_most_one, 
 use Rattle.meaning.specs.Matching.{Matches, compares, calls, negates, picks, both_sides, left_side}
 use Rattle.meaning.specs.Matching.{right_side}
 use Rattle.meaning.specs.MatchingLaws.{MatchesComplete}
-use Rattle.meaning.proofs.Basics.{and_both, other, holds_aimed}
+use Rattle.meaning.proofs.Basics.{other, holds_aimed}
 use Rattle.meaning.proofs.Values.{values_one, in_index}
 use Rattle.meaning.proofs.Counting.{Counted, counted, counted_part}
 use Rattle.meaning.proofs.Readings.{said_result, said_left, out_not_said}
@@ -42,7 +43,7 @@ settles_complete S C m h (the_field f) =
           _,
           _,
           chosen i.0 V (omega arith) i.1,
-          and_both (S m) _ h (eq-eqb (get_or m f 0) (get_or (v ∷ w ∷ l) i.0 0) (sym i.2)),
+          and_from (S m) _ h (eq-eqb (get_or m f 0) (get_or (v ∷ w ∷ l) i.0 0) (sym i.2)),
         )
 
 pub resolves_complete :
@@ -109,7 +110,7 @@ module _ (rules : List Rule) (m : List ℕ) where
       let w = leaves_complete q.1 C₂ m q.4 p.2 q.2 in
       let ok : holds s (at m p.2) (at m q.2) ≡ b = ap₂ (holds s) (resolves_sound p.3 m p.4).1
       (resolves_sound q.3 m q.4).1 ∙ g in
-      let in_it : passing w.1 (aimed b s) p.2 q.2 m ≡ true = and_both (w.1 m) _ w.3
+      let in_it : passing w.1 (aimed b s) p.2 q.2 m ≡ true = and_from (w.1 m) _ w.3
       (holds_aimed b s (at m p.2) (at m q.2) ok) in (
         p.0 ++ (q.0 ++ w.0),
         passing w.1 (aimed b s) p.2 q.2,

@@ -1,5 +1,6 @@
 -- From any numbers there is exactly one draw.
-use Rattle.std.proofs.Common.{◌≡◌, ℕ, ◌+◌, ◌%◌, ◌<◌, Bool, true, false, cond, ltb, ◌⊎◌, List, [], ◌∷◌, ◌++◌, length, sym, refl, ap, ◌∙◌, subst, ap₂, inl, inr, mod-lt, arith}
+use Rattle.std.proofs.Common.{◌≡◌, ℕ, ◌+◌, ◌⊎◌, List, [], ◌∷◌, ◌++◌, length, sym, refl, ap, ◌∙◌, subst, ap₂, inl, inr, ⊎_elim, mod-lt, arith}
+use Rattle.std.proofs.lemmas.Bool.Decides.{nat_tests}
 use Rattle.std.proofs.lemmas.List.{length-append}
 use Rattle.formula.specs.Trees.{Sheet}
 use Rattle.marks.specs.Sets.{Marks, MarksOf}
@@ -14,11 +15,7 @@ use Rattle.meaning.proofs.Picks.{all_told}
 
 pub drawn_fair : Fair drawn
 drawn_fair r (among c) h = mod-lt r h
-drawn_fair r (branch v w) h = go (ltb (r % (v + w)) v)
-  where
-    go : (b : Bool) → cond b 0 1 < 2
-    go true = omega arith
-    go false = omega arith
+drawn_fair r (branch v w) h = grind (arith, nat_tests)
 
 -- where a told trace has its last number
 data Split (ns : List ℕ) : Trace → List ℕ → Type 0 where
@@ -98,11 +95,10 @@ module _ (sh : Sheet) (fuel : ℕ) (S : Marks) (B : MarksOf (fields_of sh) S) (n
       {d e : Drawn} {t u : Trace} {l k : List ℕ}
       → Draws sh fuel S ns d t l → Draws sh fuel S ns e u k → (d ≡ e) × (t ≡ u) × (l ≡ k)
   only_draw (draws {ls = ls} {t = t} {a = a} r x) (draws {ls = ks} {t = u} {a = c} q y) =
-      go (run_part sh fuel S B t u a c r q)
-    where
-      go : ((t ≡ u) × (a ≡ c)) ⊎ Apart t u → (ran a ≡ ran c) × (t ≡ u) × (ls ≡ ks)
-      go (inl p) = (ap ran p.1, p.0, takes_left x (subst (λ (z : Trace). Takes ns z ks) (sym p.0) y))
-      go (inr p) = absurd (never_apart x y p)
+      ⊎_elim
+      (λ p. (ap ran p.1, p.0, takes_left x (subst (λ (z : Trace). Takes ns z ks) (sym p.0) y)))
+      (λ p. absurd (never_apart x y p))
+      (run_part sh fuel S B t u a c r q)
   only_draw (draws {t = t} {a = a} r x) (runs_dry {t = u} {a = o} e v q y) =
       absurd (never_short e v x y (either (run_part sh fuel S B t (u ++ e ∷ v) a o r q)))
   only_draw (runs_dry {t = u} {a = o} e v q y) (draws {t = t} {a = a} r x) =

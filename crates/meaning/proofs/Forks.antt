@@ -1,5 +1,6 @@
 -- Two matches from one state are the same, or part at one choice and share no mark.
-use Rattle.std.proofs.Common.{◌≡◌, ℕ, ◌<◌, Bool, true, not, ◌≢◌, List, [], ◌∷◌, ◌++◌, length, get_or, sym, refl, ap, ◌∙◌, subst, ap₂, subst₂, arith, eqb-true}
+use Rattle.std.proofs.Common.{◌≡◌, ℕ, ◌<◌, Bool, true, not, ◌≢◌, ◌⊎◌, List, [], ◌∷◌, ◌++◌, length, get_or, sym, refl, ap, ◌∙◌, subst, ap₂, subst₂, inl, inr, arith, eqb-true, rules}
+use Rattle.std.proofs.lemmas.Bool.{and_parts}
 use native.Mathlib.Decide.{ℕ_discrete}
 use mathlib.Core.Path.{subst₃}
 use Rattle.formula.specs.Trees.{Term, Formula, Rule}
@@ -9,10 +10,10 @@ use Rattle.meaning.specs.Terms.{body, shifted, aimed}
 use Rattle.meaning.specs.Traces.{among, Entry, took, Trace, Apart, here, there}
 use Rattle.meaning.specs.Matching.{Argument, the_number, Settles, number, known, chosen, Resolves, numeral}
 use Rattle.meaning.specs.Matching.{as_it_is, settled, Passes, no_more, passes, LeavesOne, left_first}
-use Rattle.meaning.specs.Matching.{at_most_one, passing, State, live, Lives, some_left, none_left, Matches}
+use Rattle.meaning.specs.Matching.{at_most_one, passing, State, live, Lives, Matches}
 use Rattle.meaning.specs.Matching.{stays_dead, stays_spent, compares, calls, calls_out, negates, picks}
 use Rattle.meaning.specs.Matching.{both_sides, left_side, right_side}
-use Rattle.meaning.proofs.Basics.{and_left, and_right, not_self}
+use Rattle.meaning.proofs.Basics.{not_self}
 use Rattle.meaning.proofs.Values.{values_one, same_index}
 use Rattle.meaning.proofs.Readings.{one_result}
 use Rattle.meaning.proofs.Soundness.{Held, resolves_sound, passes_sound}
@@ -55,6 +56,14 @@ module _ {A : Type 0} {held : A → List ℕ → Type 0} where
   behind e (same p q) = same (ap {B = Trace} (λ z. e ∷ z) p) q
   behind e (apart x y) = apart (there x) y
 
+  pub either : {t u : Trace} {a b : A} → Fork held t a u b → ((t ≡ u) × (a ≡ b)) ⊎ Apart t u
+  either (same p q) = inl (p, q)
+  either (apart x y) = inr x
+
+  pub at_most : {t u : Trace} {a b : A} → Fork held t a u b → (m : List ℕ) → held a m → held b m → t ≡ u
+  at_most (same p q) m h g = p
+  at_most (apart x y) m h g = absurd (y m h g)
+
 -- a set, and what came with it
 abbrev pub Has {κ} : {X : Type κ} → Marks × X → List ℕ → Type 0
 Has p m = p.0 m ≡ true
@@ -62,27 +71,24 @@ Has p m = p.0 m ≡ true
 abbrev pub Of : Marks → List ℕ → Type 0
 Of P m = P m ≡ true
 
+-- two picks of the numbers of one field
+abbrev TwoChosen : Marks → ℕ → (vs ws : List ℕ) → (k j : ℕ) → Type 0
+TwoChosen S f vs ws k j =
+    Fork (Has {X = ℕ}) (took k (among (length vs)) ∷ []) (kept S f Equal (get_or vs k 0), get_or vs k 0)
+    (took j (among (length ws)) ∷ []) (kept S f Equal (get_or ws j 0), get_or ws j 0)
+
 both_chosen :
     (S : Marks) (f : ℕ) (vs ws : List ℕ) → vs ≡ ws → Values S f vs → (k j : ℕ) → k < length vs
-    → j < length ws
-    → Fork (Has {X = ℕ}) (took k (among (length vs)) ∷ []) (kept S f Equal (get_or vs k 0), get_or vs k 0)
-    (took j (among (length ws)) ∷ []) (kept S f Equal (get_or ws j 0), get_or ws j 0)
+    → j < length ws → TwoChosen S f vs ws k j
 both_chosen S f vs ws p V k j h g =
-    subst (λ (ws : List ℕ). j < length ws → Fork (Has {X = ℕ}) (took k (among (length vs)) ∷ [])
-    (kept S f Equal (get_or vs k 0), get_or vs k 0) (took j (among (length ws)) ∷ [])
-    (kept S f Equal (get_or ws j 0), get_or ws j 0)) p (λ g. go g (ℕ_discrete k j)) g
+    subst (λ (ws : List ℕ). j < length ws → TwoChosen S f vs ws k j) p (λ g. go g (ℕ_discrete k j)) g
   where
-    go :
-        j < length vs → Dec (k ≡ j)
-        → Fork (Has {X = ℕ}) (took k (among (length vs)) ∷ []) (kept S f Equal (get_or vs k 0), get_or vs k 0)
-        (took j (among (length vs)) ∷ []) (kept S f Equal (get_or vs j 0), get_or vs j 0)
-    go g (yes q) =
-        same (ap {B = Trace} (λ i. took i (among (length vs)) ∷ []) q)
-        (ap {B = Marks × ℕ} (λ (i : ℕ). (kept S f Equal (get_or vs i 0), get_or vs i 0)) q)
+    go : j < length vs → Dec (k ≡ j) → TwoChosen S f vs vs k j
+    go g (yes q) = subst (TwoChosen S f vs vs k) q (same refl refl)
     go g (no n) =
         apart (here n) (λ m x y. n (same_index vs V.ascending k j h g
-        (sym (eqb-true (get_or m f 0) (get_or vs k 0) (and_right (S m) _ x))
-        ∙ eqb-true (get_or m f 0) (get_or vs j 0) (and_right (S m) _ y))))
+        (sym (eqb-true (get_or m f 0) (get_or vs k 0) (and_parts (S m) _ x).1)
+        ∙ eqb-true (get_or m f 0) (get_or vs j 0) (and_parts (S m) _ y).1)))
 
 one_known : (S : Marks) (f v : ℕ) (vs : List ℕ) → Values S f (v ∷ []) → Values S f vs → length vs ≢ 1 → ⊥
 one_known S f v vs V W n = n (sym (ap length (values_one S f (v ∷ []) vs V W)))
@@ -116,8 +122,8 @@ passes_fork no_more no_more = same refl refl
 passes_fork {e} (passes {rs = rs} p r) {Q} (passes {u = u₁} {d = ds} q s) =
     follow (resolves_fork p q)
     (λ z.
-    onward {hold = Has {X = List Argument}} (passes_fork r
-    (subst (λ (X : Marks). Passes e X rs u₁ Q ds) (sym (ap (λ (y : Marks × Argument). y.0) z)) s))
+    onward {hold = Has {X = List Argument}}
+    (passes_fork r (subst (λ (y : Marks × Argument). Passes e y.0 rs u₁ Q ds) (sym z) s))
     (λ y. ap₂ {C = Marks × List Argument} (λ (x : Marks × Argument) (y : Marks × List Argument).
     (y.0, x.1 ∷ y.1)) z y)
     (λ m h. h)
@@ -135,10 +141,7 @@ leaves_fork (at_most_one n) (left_first x y p) = absurd (n x y)
 leaves_fork (at_most_one n) (at_most_one o) = same refl refl
 
 pub lives_one : {n : ℕ} {S : Marks} {o p : State} → Lives n S o → Lives n S p → o ≡ p
-lives_one (some_left x) (some_left y) = refl
-lives_one (some_left x) (none_left y) = absurd (x y)
-lives_one (none_left x) (some_left y) = absurd (y x)
-lives_one (none_left x) (none_left y) = refl
+lives_one = search rules
 
 module _ (rules : List Rule) where
   part_of :
@@ -164,26 +167,23 @@ module _ (rules : List Rule) where
       (compares {S₁ = S₁} {S₂ = S₂} {S₃ = S₃} {t₁ = t₁} {t₂ = t₂} {x = x} {y = y} p' q' w' z') =
       follow (resolves_fork p p')
       (λ j.
-      follow (resolves_fork q (subst (λ (X : Marks). Resolves e X r t₁ S₂ y)
-      (sym (ap (λ (k : Marks × Argument). k.0) j)) q'))
+      follow (resolves_fork q (subst (λ (i : Marks × Argument). Resolves e i.0 r t₁ S₂ y) (sym j) q'))
       (λ k.
-      onward (leaves_fork w (subst₃ (λ (X : Marks) (x y : Argument). LeavesOne X x y t₂ S₃)
-      (sym (ap (λ (k : Marks × Argument). k.0) k)) (sym (ap (λ (k : Marks × Argument). k.1) j))
-      (sym (ap (λ (k : Marks × Argument). k.1) k)) w'))
-      (λ l. lives_one z (subst₃ (λ (X : Marks) (x y : Argument). Lives n (passing X (aimed b s) x y) o)
-      (sym l) (sym (ap (λ (k : Marks × Argument). k.1) j)) (sym (ap (λ (k : Marks × Argument). k.1) k))
-      z'))
-      (λ m h. and_left _ _ (lives_sound z m h).0)
-      (λ m h. and_left _ _ (lives_sound z' m h).0))
-      (λ m h. leaves_sound w m (and_left _ _ (lives_sound z m h).0))
-      (λ m h. leaves_sound w' m (and_left _ _ (lives_sound z' m h).0)))
-      (λ m h. (resolves_sound q m (leaves_sound w m (and_left _ _ (lives_sound z m h).0))).0)
-      (λ m h. (resolves_sound q' m (leaves_sound w' m (and_left _ _ (lives_sound z' m h).0))).0)
+      onward
+      (leaves_fork w (subst₂ (λ (i g : Marks × Argument). LeavesOne g.0 i.1 g.1 t₂ S₃) (sym j) (sym k) w'))
+      (λ l. lives_one z
+      (subst₃ (λ (X : Marks) (i g : Marks × Argument). Lives n (passing X (aimed b s) i.1 g.1) o)
+      (sym l) (sym j) (sym k) z'))
+      (λ m h. (and_parts _ _ (lives_sound z m h).0).0)
+      (λ m h. (and_parts _ _ (lives_sound z' m h).0).0))
+      (λ m h. leaves_sound w m (and_parts _ _ (lives_sound z m h).0).0)
+      (λ m h. leaves_sound w' m (and_parts _ _ (lives_sound z' m h).0).0))
+      (λ m h. (resolves_sound q m (leaves_sound w m (and_parts _ _ (lives_sound z m h).0).0)).0)
+      (λ m h. (resolves_sound q' m (leaves_sound w' m (and_parts _ _ (lives_sound z' m h).0).0)).0)
   matches_fork (calls {r = r} {b = b} {n = n} p q) {p = o} (calls {u = u} p' q') =
       follow (passes_fork p p')
-      (λ j. matches_fork q (subst₂ (λ (d : List Argument) (X : Marks). Matches rules d (body rules r) b
-      (live n X) u o) (sym (ap (λ (k : Marks × List Argument). k.1) j))
-      (sym (ap (λ (k : Marks × List Argument). k.0) j)) q'))
+      (λ j. matches_fork q
+      (subst (λ (i : Marks × List Argument). Matches rules i.1 (body rules r) b (live n i.0) u o) (sym j) q'))
       (λ m h. part_of m q h)
       (λ m h. part_of m q' h)
   matches_fork (calls_out p) (calls_out q) =
@@ -191,8 +191,7 @@ module _ (rules : List Rule) where
   matches_fork (negates p) (negates q) = matches_fork p q
   matches_fork {e} (picks {F = F} {b = b} {n = n} p q) {p = o} (picks {u = u} p' q') =
       follow (settles_fork p p')
-      (λ j. matches_fork q (subst (λ (X : Marks). Matches rules e F b (live n X) u o)
-      (sym (ap (λ (k : Marks × ℕ). k.0) j)) q'))
+      (λ j. matches_fork q (subst (λ (i : Marks × ℕ). Matches rules e F b (live n i.0) u o) (sym j) q'))
       (λ m h. part_of m q h)
       (λ m h. part_of m q' h)
   matches_fork {e} (both_sides {G = G} {b = b} j p q) {p = o} (both_sides {u = u} j' p' q') =

@@ -1,11 +1,13 @@
 -- How long a trace can be.
-use Rattle.std.proofs.Common.{◌≡◌, ℕ, zero, suc, ◌+◌, ◌*◌, ◌<◌, ◌≤◌, Bool, true, false, cond, ◌&&◌, ◌||◌, eqb, ◌≢◌, List, [], ◌∷◌, ◌++◌, length, get_or, sym, refl, ap, ◌∙◌, subst, inl, inr, not-suc-le-zero, mul-suc, mul-add, arith, eq-eqb, eqb-true}
-use native.Mathlib.Decide.{ℕ_discrete, dec_lt}
+use Rattle.std.proofs.Common.{◌≡◌, ℕ, zero, suc, ◌+◌, ◌*◌, ◌<◌, ◌≤◌, Bool, true, false, cond, ◌&&◌, ◌||◌, eqb, ◌≢◌, List, [], ◌∷◌, ◌++◌, length, get_or, sym, refl, ap, ◌∙◌, subst, inl, inr, ⊎_elim, not-suc-le-zero, mul-suc, mul-add, arith, eq-eqb, eqb-true}
+use Rattle.std.proofs.lemmas.Bool.{and_parts, cases_lt, cond_both, false_from_ne_true}
+use native.Mathlib.Decide.{ℕ_discrete}
 use borrow.Author.Tests.{apart_eqb, clash}
+use Rattle.std.proofs.lemmas.List.{get_or_past}
 use Rattle.formula.specs.Trees.{Term, Formula, Rule, Sheet}
 use Rattle.marks.specs.Sets.{Marks, Values}
 use Rattle.meaning.specs.Terms.{fields_of, body, rules_of}
-use Rattle.meaning.specs.Traces.{among, branch, took, Trace}
+use Rattle.meaning.specs.Traces.{among, branch, Entry, took, Trace}
 use Rattle.meaning.specs.Matching.{Argument, Settles, number, known, chosen, Resolves, numeral, as_it_is}
 use Rattle.meaning.specs.Matching.{settled, Passes, no_more, passes, LeavesOne, left_first, at_most_one}
 use Rattle.meaning.specs.Matching.{State, live, spent, Lives, some_left, none_left, Matches, stays_dead}
@@ -13,9 +15,9 @@ use Rattle.meaning.specs.Matching.{stays_spent, compares, calls, calls_out, nega
 use Rattle.meaning.specs.Matching.{left_side, right_side}
 use Rattle.meaning.specs.Runs.{Outcome, Ends, ended, ends, Finishes, whole, at_dead, at_spent, Run, runs}
 use Rattle.meaning.specs.Lengths.{joins, TracesShort, FewJoins}
-use Rattle.meaning.proofs.Basics.{and_left, and_right}
 use Rattle.meaning.proofs.Soundness.{Held, fuel_of, settles_sound, resolves_sound, passes_sound}
 use Rattle.meaning.proofs.Soundness.{lives_sound, sound}
+use Rattle.meaning.proofs.Entries.{Each, settles_each, resolves_each, passes_each, leaves_each, finishes_each}
 
 -- branches of joins, and fields
 forks : Trace → ℕ
@@ -48,47 +50,26 @@ fields_join (took k (branch v w) ∷ t) u = fields_join t u
 
 -- the forks
 
-settles_forks : {S P : Marks} {a : Argument} {t : Trace} {v : ℕ} → Settles S a t P v → forks t ≡ 0
-unfolding forks
-settles_forks number = refl
-settles_forks (known V) = refl
-settles_forks (chosen k V n h) = refl
+-- the choice is among the numbers of a field
+abbrev OfField : Entry → Type 0
+OfField (took k (among c)) = Unit {0}
+OfField (took k (branch v w)) = ⊥
 
-resolves_forks :
-    {e : List Argument} {S P : Marks} {r : Term} {t : Trace} {a : Argument} → Resolves e S r t P a
-    → forks t ≡ 0
+no_forks : (t : Trace) → Each OfField t → forks t ≡ 0
 unfolding forks
-resolves_forks numeral = refl
-resolves_forks as_it_is = refl
-resolves_forks (settled s) = settles_forks s
+no_forks [] x = refl
+no_forks (took k (among c) ∷ t) x = no_forks t x.1
+no_forks (took k (branch v w) ∷ t) x = absurd x.0
 
-passes_forks :
-    {e d : List Argument} {S P : Marks} {ts : List Term} {t : Trace} → Passes e S ts t P d → forks t ≡ 0
-unfolding forks
-passes_forks no_more = refl
-passes_forks (passes {t = t} {u = u} s r) =
-    let p = resolves_forks s in
-    let q = passes_forks r in
-    omega (arith, forks_join t u)
+-- every set, as the one that the others are parts of
+abbrev Every : Marks
+Every = λ m. true
 
-leaves_forks : {S P : Marks} {a b : Argument} {t : Trace} → LeavesOne S a b t P → forks t ≡ 0
-unfolding forks
-leaves_forks (left_first x y s) = settles_forks s
-leaves_forks (at_most_one n) = refl
-
-ends_forks : {f c : ℕ} {S P : Marks} {t : Trace} {vs : List ℕ} → Ends f c S t P vs → forks t ≡ 0
-unfolding forks
-ends_forks ended = refl
-ends_forks (ends {t = t} {u = u} s r) =
-    let p = settles_forks s in
-    let q = ends_forks r in
-    omega (arith, forks_join t u)
-
-finishes_forks : {w : ℕ} {o : State} {t : Trace} {a : Outcome} → Finishes w o t a → forks t ≡ 0
-unfolding forks
-finishes_forks (whole d) = ends_forks d
-finishes_forks at_dead = refl
-finishes_forks at_spent = refl
+-- what a field settles is a choice among its numbers
+of_field :
+    (S : Marks) → ((m : List ℕ) → S m ≡ true → Every m ≡ true) → (f : ℕ) (vs : List ℕ) → Values S f vs
+    → (k : ℕ) → k < length vs → OfField (took k (among (length vs)))
+of_field S s f vs V k h = tt
 
 lives_fuel : {n : ℕ} {S : Marks} {o : State} (J : ℕ) → Lives n S o → J * fuel_of o ≤ J * n
 lives_fuel J (some_left x) = omega arith
@@ -102,19 +83,21 @@ module _ (rules : List Rule) (J : ℕ) (small : (r : ℕ) → joins (body rules 
   matches_forks stays_dead = omega arith
   matches_forks stays_spent = omega arith
   matches_forks (compares {t = t} {t₁ = t₁} {t₂ = t₂} p q w z) =
-      let a = resolves_forks p in
-      let b = resolves_forks q in
-      let c = leaves_forks w in
+      let a = no_forks t (resolves_each OfField Every of_field p (λ m h. refl)) in
+      let b = no_forks t₁ (resolves_each OfField Every of_field q (λ m h. refl)) in
+      let c = no_forks t₂ (leaves_each OfField Every of_field w (λ m h. refl)) in
       let d = lives_fuel J z in
       omega (arith, forks_join t (t₁ ++ t₂), forks_join t₁ t₂)
   matches_forks (calls {r = r} {n = n} {t = t} {u = u} p q) =
-      let a = passes_forks p in
+      let a = no_forks t (passes_each OfField Every of_field p (λ m h. refl)) in
       let b = matches_forks q in
       omega (arith, forks_join t u, small r, mul-suc J n)
-  matches_forks (calls_out {t = t} p) = let a = passes_forks p in omega (arith, a)
+  matches_forks (calls_out {t = t} p) =
+      let a = no_forks t (passes_each OfField Every of_field p (λ m h. refl)) in
+      omega (arith, a)
   matches_forks (negates p) = matches_forks p
   matches_forks (picks {t = t} {u = u} p q) =
-      let a = settles_forks p in
+      let a = no_forks t (settles_each OfField Every of_field p (λ m h. refl)) in
       let b = matches_forks q in
       omega (arith, forks_join t u)
   matches_forks (both_sides {t = t} {u = u} j p q) =
@@ -136,11 +119,9 @@ count K (suc w) = cond (K w) (suc (count K w)) (count K w)
 count_most : (K : ℕ → Bool) (w : ℕ) → count K w ≤ w
 unfolding count
 count_most K zero = omega arith
-count_most K (suc w) = go (K w) (count_most K w)
-  where
-    go : (b : Bool) → count K w ≤ w → cond b (suc (count K w)) (count K w) ≤ suc w
-    go true h = omega arith
-    go false h = omega arith
+count_most K (suc w) =
+    let h = count_most K w in
+    cond_both (K w) (suc (count K w)) (count K w) (λ n. n ≤ suc w) (λ e. omega arith) (λ e. omega arith)
 
 abbrev with_field : (ℕ → Bool) → ℕ → ℕ → Bool
 with_field K f = λ g. eqb g f || K g
@@ -180,15 +161,8 @@ count_with K f (suc w) n h = go (ℕ_discrete w f) (λ g. count_with K f w n g)
         split true = refl
         split false = refl
 
--- the fields of K have one number each in S
-abbrev Sure : (ℕ → Bool) → Marks → Type 0
-Sure K S = (f : ℕ) → K f ≡ true → (v : ℕ) × ((m : List ℕ) → S m ≡ true → get_or m f 0 ≡ v)
-
-sure_part : (K : ℕ → Bool) (S P : Marks) → ((m : List ℕ) → P m ≡ true → S m ≡ true) → Sure K S → Sure K P
-sure_part K S P s x f h = let r = x f h in (r.0, λ m g. r.1 m (s m g))
-
 -- a field with one number is not a choice
-not_chosen :
+pub not_chosen :
     (S : Marks) (f v : ℕ) (vs : List ℕ) (k : ℕ) → Values S f vs → length vs ≢ 1 → k < length vs
     → ((m : List ℕ) → S m ≡ true → get_or m f 0 ≡ v) → ⊥
 not_chosen S f v [] k V n h x = not-suc-le-zero h
@@ -198,19 +172,28 @@ not_chosen S f v (a ∷ b ∷ vs) k V n h x =
     (λ m' p' q'. (let l : a < b = V.ascending.0 b (inl refl) in
     let e : a ≡ b = sym q ∙ x m p ∙ sym (x m' p') ∙ q' in omega arith)))
 
-get_or_past : (m : List ℕ) (f : ℕ) → length m ≤ f → get_or m f 0 ≡ 0
-get_or_past [] f h = refl
-get_or_past (x ∷ m) zero h = absurd (let z : ⊥ = omega arith in z)
-get_or_past (x ∷ m) (suc f) h = get_or_past m f (omega arith)
-
 module _ (w : ℕ) where
-  abbrev Long : Marks → Type 0
-  Long S = (m : List ℕ) → S m ≡ true → length m ≡ w
+  -- the fields of K have one number each in the marks of the state
+  abbrev Stays : (ℕ → Bool) → State → Type 0
+  Stays K o = (f : ℕ) → K f ≡ true → (v : ℕ) × ((m : List ℕ) → Held o m → get_or m f 0 ≡ v)
 
-  -- from S by the trace t to P: K grows by the fields of t
+  -- from i by the trace t to o: K grows by the fields of t
+  abbrev Rises : State → Trace → State → Type 0
+  Rises i t o =
+      ((m : List ℕ) → Held i m → length m ≡ w) → (K : ℕ → Bool) → Stays K i
+      → (L : ℕ → Bool) × Stays L o × (fields t + count K w ≤ count L w)
+
+  rises_join :
+      (i j o : State) (t u : Trace) → Rises i t j → ((m : List ℕ) → Held j m → Held i m) → Rises j u o
+      → Rises i (t ++ u) o
+  rises_join i j o t u f s g long K x =
+      let p = f long K x in
+      let q = g (λ m h. long m (s m h)) p.0 p.1 in
+      (q.0, q.1, omega (arith, fields_join t u, p.2, q.2))
+
+  -- the same of sets
   abbrev Grows : Marks → Trace → Marks → Type 0
-  Grows S t P =
-      Long S → (K : ℕ → Bool) → Sure K S → (L : ℕ → Bool) × Sure L P × (fields t + count K w ≤ count L w)
+  Grows S t P = Rises (live 0 S) t (live 0 P)
 
   settles_grows : {S P : Marks} {a : Argument} {t : Trace} {v : ℕ} → Settles S a t P v → Grows S t P
   unfolding fields
@@ -219,17 +202,18 @@ module _ (w : ℕ) where
   settles_grows {S} (chosen {f = f} {vs = vs} k V n h) long K x = (
     with_field K f,
     (λ g. sure g (ℕ_discrete g f)),
-    (let e = count_with K f w (fresh (K f) refl) (below (dec_lt f w)) in omega arith),
+    (let e = count_with K f w fresh below in omega arith),
   )
     where
-      fresh : (b : Bool) → K f ≡ b → b ≡ false
-      fresh true p = absurd (let r = x f p in not_chosen S f r.0 vs k V n h r.1)
-      fresh false p = refl
+      fresh : K f ≡ false
+      fresh = false_from_ne_true (K f) (λ p. let r = x f p in not_chosen S f r.0 vs k V n h r.1)
 
-      below : Dec (f < w) → f < w
-      below (yes p) = p
-      below (no q) =
-          absurd (not_chosen S f 0 vs k V n h (λ m g. (let l = long m g in get_or_past m f (omega arith))))
+      below : f < w
+      below =
+          ⊎_elim (λ p. p)
+          (λ q. absurd (not_chosen S f 0 vs k V n h
+          (λ m g. let l = long m g in get_or_past m f 0 (omega arith))))
+          (cases_lt f w)
 
       sure :
           (g : ℕ) → Dec (g ≡ f) → with_field K f g ≡ true
@@ -237,19 +221,11 @@ module _ (w : ℕ) where
       sure g (yes p) q = (
         get_or vs k 0,
         λ m y. ap (λ (i : ℕ). get_or m i 0) p
-            ∙ eqb-true (get_or m f 0) (get_or vs k 0) (and_right (S m) _ y),
+            ∙ eqb-true (get_or m f 0) (get_or vs k 0) (and_parts (S m) _ y).1,
       )
       sure g (no p) q =
           let r = x g (sym (ap (λ (b : Bool). b || K g) (apart_eqb g f p)) ∙ q) in
-          (r.0, λ m y. r.1 m (and_left (S m) _ y))
-
-  grows_join :
-      (S P Q : Marks) (t u : Trace) → Grows S t P → ((m : List ℕ) → P m ≡ true → S m ≡ true) → Grows P u Q
-      → Grows S (t ++ u) Q
-  grows_join S P Q t u f s g long K x =
-      let p = f long K x in
-      let q = g (λ m h. long m (s m h)) p.0 p.1 in
-      (q.0, q.1, omega (arith, fields_join t u, p.2, q.2))
+          (r.0, λ m y. r.1 m (and_parts (S m) _ y).0)
 
   resolves_grows :
       {e : List Argument} {S P : Marks} {r : Term} {t : Trace} {a : Argument} → Resolves e S r t P a
@@ -264,7 +240,8 @@ module _ (w : ℕ) where
   unfolding fields
   passes_grows no_more = λ long K x. (K, x, omega arith)
   passes_grows (passes {t = t} {u = u} s r) =
-      grows_join _ _ _ t u (resolves_grows s) (λ m h. (resolves_sound s m h).0) (passes_grows r)
+      rises_join (live 0 _) (live 0 _) (live 0 _) t u (resolves_grows s) (λ m h. (resolves_sound s m h).0)
+      (passes_grows r)
 
   leaves_grows : {S P : Marks} {a b : Argument} {t : Trace} → LeavesOne S a b t P → Grows S t P
   unfolding fields
@@ -275,27 +252,10 @@ module _ (w : ℕ) where
   unfolding fields
   ends_grows ended = λ long K x. (K, x, omega arith)
   ends_grows (ends {t = t} {u = u} s r) =
-      grows_join _ _ _ t u (settles_grows s) (λ m h. (settles_sound s m h).0) (ends_grows r)
-
-  -- the same of states
-  abbrev Stays : (ℕ → Bool) → State → Type 0
-  Stays K o = (f : ℕ) → K f ≡ true → (v : ℕ) × ((m : List ℕ) → Held o m → get_or m f 0 ≡ v)
-
-  abbrev Rises : State → Trace → State → Type 0
-  Rises i t o =
-      ((m : List ℕ) → Held i m → length m ≡ w) → (K : ℕ → Bool) → Stays K i
-      → (L : ℕ → Bool) × Stays L o × (fields t + count K w ≤ count L w)
+      rises_join (live 0 _) (live 0 _) (live 0 _) t u (settles_grows s) (λ m h. (settles_sound s m h).0) (ends_grows r)
 
   stays_part : (K : ℕ → Bool) (i o : State) → ((m : List ℕ) → Held o m → Held i m) → Stays K i → Stays K o
   stays_part K i o s x f h = let r = x f h in (r.0, λ m g. r.1 m (s m g))
-
-  rises_join :
-      (i j o : State) (t u : Trace) → Rises i t j → ((m : List ℕ) → Held j m → Held i m) → Rises j u o
-      → Rises i (t ++ u) o
-  rises_join i j o t u f s g long K x =
-      let p = f long K x in
-      let q = g (λ m h. long m (s m h)) p.0 p.1 in
-      (q.0, q.1, omega (arith, fields_join t u, p.2, q.2))
 
   module _ (rules : List Rule) where
     matches_rises :
@@ -306,10 +266,12 @@ module _ (w : ℕ) where
     matches_rises stays_spent = λ long K x. (K, x, omega arith)
     matches_rises (compares {n = n} {S = S} {S₁ = S₁} {S₂ = S₂} {S₃ = S₃} {t = t} {t₁ = t₁} {t₂ = t₂}
         {o = o} p q r z) = λ long K x.
-        let y = grows_join S S₁ S₃ t (t₁ ++ t₂) (resolves_grows p) (λ m h. (resolves_sound p m h).0)
-        (grows_join S₁ S₂ S₃ t₁ t₂ (resolves_grows q) (λ m h. (resolves_sound q m h).0) (leaves_grows r))
+        let y = rises_join (live n S) (live n S₁) (live n S₃) t (t₁ ++ t₂) (resolves_grows p)
+        (λ m h. (resolves_sound p m h).0)
+        (rises_join (live n S₁) (live n S₂) (live n S₃) t₁ t₂ (resolves_grows q)
+        (λ m h. (resolves_sound q m h).0) (leaves_grows r))
         long K x in
-        (y.0, stays_part y.0 (live n S₃) o (λ m h. and_left (S₃ m) _ (lives_sound z m h).0) y.1, y.2)
+        (y.0, stays_part y.0 (live n S₃) o (λ m h. (and_parts (S₃ m) _ (lives_sound z m h).0).0) y.1, y.2)
     matches_rises (calls {n = n} {S = S} {S₁ = S₁} {t = t} {u = u} {o = o} p q) =
         rises_join (live (suc n) S) (live n S₁) o t u (passes_grows p) (λ m h. (passes_sound p m h).0)
         (matches_rises q)
@@ -345,7 +307,7 @@ module _ (w : ℕ) where
   run_fields {sh} {S = S} e long (runs {i = i} {o = o} {t = t} {u = u} {a = a} l x f) =
       let rules = rules_of sh in
       let far : (m : List ℕ) → Held i m → length m ≡ w = λ m h.
-      long m (and_left (S m) _ (lives_sound l m h).0) in
+      long m (and_parts (S m) _ (lives_sound l m h).0).0 in
       let p = matches_rises rules x far (λ g. false) (λ g h. absurd (clash h)) in
       let q = finishes_most rules (subst (λ (n : ℕ). Finishes n o u a) (sym e) f)
       (λ m h. far m (sound rules m x h).0) p.0 p.1 in
@@ -358,7 +320,7 @@ run_forks :
     → forks t ≤ J + J * fuel
 run_forks {sh} J few (runs {t = t} {u = u} l x f) =
     let p = matches_forks (rules_of sh) J few.ruled x in
-    let q = finishes_forks f in
+    let q = no_forks u (finishes_each OfField Every of_field f (λ m h. refl)) in
     let r = lives_fuel J l in
     omega (arith, forks_join t u, few.marked)
 

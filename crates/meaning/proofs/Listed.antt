@@ -1,6 +1,6 @@
 -- The numbers of the fields where the marks are listed: what antt can compute.
-use Rattle.std.proofs.Common.{◌≡◌, ℕ, ◌<◌, Bool, true, false, cond, ltb, ◌≢◌, ◌⊎◌, List, [], ◌∷◌, get_or, sym, refl, ap, ◌∙◌, inl, inr, arith, ltb-false, ltb-true}
-use borrow.Author.Tests.{clash}
+use Rattle.std.proofs.Common.{◌≡◌, ℕ, ◌<◌, true, cond, ltb, ◌≢◌, ◌⊎◌, List, [], ◌∷◌, get_or, sym, ap, ◌∙◌, inl, inr, ⊎_elim, arith, rules}
+use Rattle.std.proofs.lemmas.Bool.{both_ways, cond_both}
 use Rattle.marks.specs.Sets.{Marks, In, Ascending, Values}
 use Rattle.meaning.proofs.Counting.{Counted}
 
@@ -16,102 +16,63 @@ abbrev pub gather : Marks → ℕ → List (List ℕ) → List ℕ
 gather P f [] = []
 gather P f (m ∷ l) = cond (P m) (insert (get_or m f 0) (gather P f l)) (gather P f l)
 
+-- a number is put before the first, or past it, or is the first
+insert_both :
+    (v x : ℕ) (xs : List ℕ) (Q : List ℕ → Type 0)
+    → (v < x → Q (v ∷ x ∷ xs)) → (x < v → Q (x ∷ insert v xs)) → (x ≡ v → Q (x ∷ xs)) → Q (insert v (x ∷ xs))
+insert_both = search rules
+
 -- what insert has, and in what order
 insert_has : (v : ℕ) (xs : List ℕ) (u : ℕ) → In u (insert v xs) → (u ≡ v) ⊎ In u xs
-insert_has v [] u (inl p) = inl p
-insert_has v [] u (inr i) = absurd i
-insert_has v (x ∷ xs) u i = go (ltb v x) (ltb x v) (insert_has v xs u) i
-  where
-    go :
-        (a b : Bool) → (In u (insert v xs) → (u ≡ v) ⊎ In u xs)
-        → In u (cond a (v ∷ x ∷ xs) (cond b (x ∷ insert v xs) (x ∷ xs))) → (u ≡ v) ⊎ In u (x ∷ xs)
-    go true b f (inl p) = inl p
-    go true b f (inr i) = inr i
-    go false true f (inl p) = inr (inl p)
-    go false true f (inr i) = deeper (f i)
-      where
-        deeper : (u ≡ v) ⊎ In u xs → (u ≡ v) ⊎ In u (x ∷ xs)
-        deeper (inl p) = inl p
-        deeper (inr i) = inr (inr i)
-    go false false f i = inr i
+insert_has v [] u = λ i. i
+insert_has v (x ∷ xs) u =
+    insert_both v x xs (λ l. In u l → (u ≡ v) ⊎ In u (x ∷ xs)) (λ h i. i)
+    (λ h i. ⊎_elim (λ p. inr (inl p)) (λ j. ⊎_elim (λ q. inl q) (λ k. inr (inr k)) (insert_has v xs u j)) i)
+    (λ h i. inr i)
 
 insert_gets : (v : ℕ) (xs : List ℕ) (u : ℕ) → (u ≡ v) ⊎ In u xs → In u (insert v xs)
-insert_gets v [] u i = i
-insert_gets v (x ∷ xs) u i = go (ltb v x) (ltb x v) refl refl (insert_gets v xs u) i
-  where
-    go :
-        (a b : Bool) → ltb v x ≡ a → ltb x v ≡ b → ((u ≡ v) ⊎ In u xs → In u (insert v xs))
-        → (u ≡ v) ⊎ In u (x ∷ xs) → In u (cond a (v ∷ x ∷ xs) (cond b (x ∷ insert v xs) (x ∷ xs)))
-    go true b p q f i = i
-    go false true p q f (inl e) = inr (f (inl e))
-    go false true p q f (inr (inl e)) = inl e
-    go false true p q f (inr (inr j)) = inr (f (inr j))
-    go false false p q f (inl e) =
-        let l = ltb-false v x p in
-        let r = ltb-false x v q in
-        inl (omega arith)
-    go false false p q f (inr j) = j
+insert_gets v [] u = λ i. i
+insert_gets v (x ∷ xs) u =
+    insert_both v x xs (λ l. (u ≡ v) ⊎ In u (x ∷ xs) → In u l) (λ h i. i)
+    (λ h i. ⊎_elim (λ p. inr (insert_gets v xs u (inl p)))
+    (λ j. ⊎_elim (λ q. inl q) (λ k. inr (insert_gets v xs u (inr k))) j) i)
+    (λ h i. ⊎_elim (λ p. inl (p ∙ sym h)) (λ j. j) i)
 
 insert_ascending : (v : ℕ) (xs : List ℕ) → Ascending xs → Ascending (insert v xs)
 insert_ascending v [] a = (λ y i. absurd i, tt)
-insert_ascending v (x ∷ xs) a = go (ltb v x) (ltb x v) refl refl (insert_ascending v xs a.1)
-  where
-    go :
-        (p q : Bool) → ltb v x ≡ p → ltb x v ≡ q → Ascending (insert v xs)
-        → Ascending (cond p (v ∷ x ∷ xs) (cond q (x ∷ insert v xs) (x ∷ xs)))
-    go true q e g r = (first, a)
-      where
-        first : (y : ℕ) → In y (x ∷ xs) → v < y
-        first y (inl i) = let l = ltb-true v x e in omega arith
-        first y (inr i) =
-            let l = ltb-true v x e in
-            let m : x < y = a.0 y i in
-            omega arith
-    go false true e g r = (λ y i. first y (insert_has v xs y i), r)
-      where
-        first : (y : ℕ) → (y ≡ v) ⊎ In y xs → x < y
-        first y (inl i) = let l = ltb-true x v g in omega arith
-        first y (inr i) = a.0 y i
-    go false false e g r = a
+insert_ascending v (x ∷ xs) a =
+    insert_both v x xs Ascending
+    (λ h. (λ y i. ⊎_elim (λ p. omega arith) (λ j. let m : x < y = a.0 y j in omega arith) i, a))
+    (λ h. (
+      λ y i. ⊎_elim (λ p. omega arith) (λ j. a.0 y j) (insert_has v xs y i),
+      insert_ascending v xs a.1,
+    ))
+    (λ h. a)
 
 module _ (P : Marks) (f : ℕ) where
   gather_ascending : (l : List (List ℕ)) → Ascending (gather P f l)
   gather_ascending [] = tt
-  gather_ascending (m ∷ l) = go (P m) (gather_ascending l)
-    where
-      go :
-          (b : Bool) → Ascending (gather P f l)
-          → Ascending (cond b (insert (get_or m f 0) (gather P f l)) (gather P f l))
-      go true a = insert_ascending (get_or m f 0) (gather P f l) a
-      go false a = a
+  gather_ascending (m ∷ l) =
+      cond_both (P m) (insert (get_or m f 0) (gather P f l)) (gather P f l) Ascending
+      (λ e. insert_ascending (get_or m f 0) (gather P f l) (gather_ascending l)) (λ e. gather_ascending l)
 
   gather_all : (l : List (List ℕ)) (m : List ℕ) → Mem m l → P m ≡ true → In (get_or m f 0) (gather P f l)
   gather_all [] m i h = absurd i
-  gather_all (x ∷ l) m i h = go (P x) refl i (λ j. gather_all l m j h)
-    where
-      go :
-          (b : Bool) → P x ≡ b → Mem m (x ∷ l) → (Mem m l → In (get_or m f 0) (gather P f l))
-          → In (get_or m f 0) (cond b (insert (get_or x f 0) (gather P f l)) (gather P f l))
-      go true p (inl e) r =
-          insert_gets (get_or x f 0) (gather P f l) (get_or m f 0) (inl (ap (λ (z : List ℕ). get_or z f 0) e))
-      go true p (inr j) r = insert_gets (get_or x f 0) (gather P f l) (get_or m f 0) (inr (r j))
-      go false p (inl e) r = absurd (clash (sym p ∙ sym (ap P e) ∙ h))
-      go false p (inr j) r = r j
+  gather_all (x ∷ l) m i h =
+      cond_both (P x) (insert (get_or x f 0) (gather P f l)) (gather P f l) (In (get_or m f 0))
+      (λ e. insert_gets (get_or x f 0) (gather P f l) (get_or m f 0)
+      (⊎_elim (λ q. inl (ap (λ (z : List ℕ). get_or z f 0) q)) (λ j. inr (gather_all l m j h)) i))
+      (λ e. ⊎_elim (λ q. absurd (both_ways _ e (ap P (sym q) ∙ h))) (λ j. gather_all l m j h) i)
 
   gather_only :
-      (l : List (List ℕ)) (v : ℕ) → In v (gather P f l) → ((m : List ℕ) → P m ≡ true → get_or m f 0 ≢ v) → ⊥
+      (l : List (List ℕ)) (v : ℕ) → In v (gather P f l)
+      → ((m : List ℕ) → P m ≡ true → get_or m f 0 ≢ v) → ⊥
   gather_only [] v i n = absurd i
-  gather_only (x ∷ l) v i n = go (P x) refl i (λ j. gather_only l v j n)
-    where
-      go :
-          (b : Bool) → P x ≡ b → In v (cond b (insert (get_or x f 0) (gather P f l)) (gather P f l))
-          → (In v (gather P f l) → ⊥) → ⊥
-      go true p i r = side (insert_has (get_or x f 0) (gather P f l) v i)
-        where
-          side : (v ≡ get_or x f 0) ⊎ In v (gather P f l) → ⊥
-          side (inl e) = n x p (sym e)
-          side (inr j) = r j
-      go false p i r = r i
+  gather_only (x ∷ l) v i n =
+      cond_both (P x) (insert (get_or x f 0) (gather P f l)) (gather P f l) (λ xs. In v xs → ⊥)
+      (λ e j. ⊎_elim (λ q. n x e (sym q)) (λ k. gather_only l v k n)
+      (insert_has (get_or x f 0) (gather P f l) v j))
+      (λ e j. gather_only l v j n) i
 
   pub listed : (l : List (List ℕ)) → ((m : List ℕ) → P m ≡ true → Mem m l) → Values P f (gather P f l)
   listed l s =

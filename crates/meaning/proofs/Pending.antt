@@ -1,16 +1,14 @@
 -- For a loop over pending goals: each step of the loop, as a step of the relation. Read from the end: what
 -- solves the goals after the step solves those before it.
-use Rattle.std.proofs.Common.{◌≡◌, ℕ, zero, suc, ◌+◌, ◌*◌, ◌≤◌, Bool, not, ◌≢◌, List, [], ◌∷◌, ◌++◌, length, sym, subst, append_assoc, append-nil, mul-suc, arith}
-use Rattle.formula.specs.Trees.{Name, Term, Formula, compare, call, negate, pick, join, Rule}
-use Rattle.formula.specs.declared.Comparison.{Comparison}
+use Rattle.std.proofs.Common.{◌≡◌, ℕ, zero, suc, ◌≤◌, Bool, not, ◌≢◌, List, [], ◌∷◌, ◌++◌, length, sym, subst, append_assoc, append-nil, arith}
+use Rattle.formula.specs.Trees.{Name, Term, Formula, call, negate, pick, join, Rule}
 use Rattle.formula.specs.declared.Join.{Join}
 use Rattle.marks.specs.Sets.{Marks}
-use Rattle.meaning.specs.Terms.{body, wants, aimed}
+use Rattle.meaning.specs.Terms.{body, wants}
 use Rattle.meaning.specs.Traces.{branch, took, Trace}
-use Rattle.meaning.specs.Matching.{Argument, argument, Settles, Resolves, Passes, LeavesOne, passing, State}
-use Rattle.meaning.specs.Matching.{live, dead, spent, Lives, Matches, stays_dead, stays_spent, compares}
+use Rattle.meaning.specs.Matching.{Argument, argument, Settles, Passes, State}
+use Rattle.meaning.specs.Matching.{live, dead, spent, Matches, stays_dead, stays_spent}
 use Rattle.meaning.specs.Matching.{calls, calls_out, negates, picks, both_sides, left_side, right_side}
-use Rattle.meaning.specs.Lengths.{joins}
 use Rattle.meaning.specs.Pending.{Goal, goal, Solves, solved, solves, load}
 
 module _ (rules : List Rule) where
@@ -64,14 +62,6 @@ module _ (rules : List Rule) where
         → Solves rules (goal e (call r ts) b ∷ gs) (live (suc n) S) (t ++ u) o
     step_call {t = t} s (solves {t = u} {u = v} p q) = regroup t u v (solves (calls s p) q)
 
-    pub step_compare :
-        {l : Term} {s : Comparison} {r : Term} {S₁ S₂ S₃ : Marks} {t t₁ t₂ u : Trace} {x y : Argument}
-        {i : State}
-        → Resolves e S l t S₁ x → Resolves e S₁ r t₁ S₂ y → LeavesOne S₂ x y t₂ S₃
-        → Lives n (passing S₃ (aimed b s) x y) i → Solves rules gs i u o
-        → Solves rules (goal e (compare l s r) b ∷ gs) (live n S) ((t ++ (t₁ ++ t₂)) ++ u) o
-    step_compare p q w z x = solves (compares p q w z) x
-
   pub step_out :
       {gs : List Goal} {e : List Argument} {b : Bool} {S : Marks} {r : ℕ} {ts : List Term}
       {d : List Argument} {P : Marks} {t : Trace}
@@ -90,15 +80,3 @@ module _ (rules : List Rule) where
 pub waiting : (gs : List Goal) → length gs ≤ load gs
 waiting [] = omega arith
 waiting (goal e F b ∷ gs) = let h = waiting gs in omega arith
-
-module _ (J : ℕ) (e d : List Argument) (F G : Formula) (b c : Bool) (gs : List Goal) where
-  -- a join puts two goals for one and the load stays; a call with a body of at most J joins keeps load + J
-  -- * fuel
-  pub load_join :
-      (j : Join) (v w : ℕ) → load (goal e F b ∷ goal e G c ∷ gs) ≤ load (goal e (join j v w F G) c ∷ gs)
-  load_join j v w = omega arith
-
-  pub load_call :
-      (r n : ℕ) (ts : List Term) → joins F ≤ J
-      → load (goal d F b ∷ gs) + J * n ≤ load (goal e (call r ts) b ∷ gs) + J * suc n
-  load_call r n ts h = omega (arith, mul-suc J n)

@@ -1,11 +1,12 @@
 -- Whatever the picks, there is a run.
-use Rattle.std.proofs.Common.{◌≡◌, ℕ, zero, suc, ◌<◌, ◌≤◌, Bool, true, not, ◌≢◌, List, [], ◌∷◌, ◌++◌, length, sym, refl, ◌∙◌, subst, inl, not-suc-le-zero, arith}
+use Rattle.std.proofs.Common.{◌≡◌, ℕ, zero, suc, ◌<◌, ◌≤◌, Bool, true, not, ◌≢◌, List, [], ◌∷◌, ◌++◌, length, sym, refl, ◌∙◌, subst, inl, ⊎_elim, not-suc-le-zero, arith}
+use Rattle.std.proofs.lemmas.Bool.{and_parts}
 use mathlib.Core.Bool.{Bool-discrete}
 use Rattle.formula.specs.Trees.{Term, num, bare, moved, Formula, compare, call, negate, pick, join}
 use Rattle.formula.specs.Trees.{Rule, Sheet}
 use Rattle.formula.specs.declared.Comparison.{Comparison}
 use Rattle.formula.specs.declared.Join.{Join}
-use Rattle.marks.specs.Sets.{Marks, Empty, Values, MarksOf}
+use Rattle.marks.specs.Sets.{Marks, Empty, Values}
 use Rattle.meaning.specs.Terms.{ranges_of, fields_of, body, shifted, wants, aimed, rules_of, mark_line}
 use Rattle.meaning.specs.Traces.{Choice, among, branch, width, took, Trace, Apart, here, there}
 use Rattle.meaning.specs.Matching.{Argument, the_field, the_number, argument, Settles, number, known}
@@ -17,13 +18,11 @@ use Rattle.meaning.specs.Matching.{right_side}
 use Rattle.meaning.specs.Runs.{Outcome, mark, dead_end, spent_run, Ends, ended, ends, Finishes, whole}
 use Rattle.meaning.specs.Runs.{at_dead, at_spent, inside, Run, runs}
 use Rattle.meaning.specs.Picks.{Telling, Fair, Told, told_none, told_one, told_past, NumbersTell}
-use Rattle.meaning.proofs.Basics.{and_left}
 use Rattle.meaning.proofs.Counting.{Counted, counted, counted_part}
 use Rattle.meaning.proofs.Soundness.{Held, fuel_of, settles_sound, resolves_sound, passes_sound}
 use Rattle.meaning.proofs.Soundness.{leaves_sound, lives_sound, sound}
-use Rattle.meaning.proofs.Forks.{Fork, same, apart}
 use Rattle.meaning.proofs.Completeness.{unknown_dec}
-use Rattle.meaning.proofs.Runs.{Alive, Issued, settles_alive, matches_alive, lives_alive, run_fork}
+use Rattle.meaning.proofs.Runs.{Alive, settles_alive, matches_alive, lives_alive, run_part}
 
 unfoldable pub empty_dec : (S : Marks) → Counted S → Dec (Empty S)
 empty_dec S C =
@@ -149,7 +148,7 @@ module _ (ρ : Telling) (fair : Fair ρ) where
         let C₂ = counted_part p.1 q.1 C₁ (λ m h. (resolves_sound q.4 m h).0) in
         let w = leaves_told q.1 C₂ q.6 q.3 p.2 q.2 in
         let C₃ = counted_part q.1 (passing w.1 (aimed b s) p.2 q.2) C₂
-        (λ m h. leaves_sound w.3 m (and_left (w.1 m) _ h)) in
+        (λ m h. leaves_sound w.3 m (and_parts (w.1 m) _ h).0) in
         let z = lives_some k (passing w.1 (aimed b s) p.2 q.2) C₃ in
         let g : fuel_of z.0 ≤ k = lives_fuel z.1 in (
           p.0 ++ (q.0 ++ w.0),
@@ -192,7 +191,7 @@ module _ (ρ : Telling) (fair : Fair ρ) where
               f (q.0 ++ r.0) r.2 (told_join q.4 r.4),
               r.5,
             )
-        chose y (suc (suc i)) g l f = absurd (let z : ⊥ = omega arith in z)
+        chose y (suc (suc i)) g l f = absurd (omega arith)
 
         go : Dec (b ≡ wants j) → Goes e (join j v w F G) b (live k S) n ns
         go (yes y) =
@@ -275,23 +274,16 @@ pub all_told : NumbersTell
 all_told =
     λ sh fuel S B ρ fair ns.
     (let r = run_told ρ fair sh fuel S (counted_part S (inside S (ranges_of sh))
-    (counted (fields_of sh) S B) (λ m h. and_left (S m) _ h)) ns in
+    (counted (fields_of sh) S B) (λ m h. (and_parts (S m) _ h).0)) ns in
     record {
       trace = r.0;
       outcome = r.1;
       run = r.3;
       left = r.2;
       told = r.4;
-      only = λ t a l x y. only sh fuel S B ρ fair ns r.0 r.1 r.2 r.3 r.4 t a l x y;
+      only = λ t a l x y.
+          ⊎_elim
+          (λ q. (q.0, q.1, one_rest ρ fair r.4 (subst (λ (i : Trace). Told ρ ns i l) q.0 y)))
+          (λ q. absurd (not_apart ρ fair q y r.4))
+          (run_part sh fuel S B t r.0 a r.1 x r.3);
     })
-  where
-    only :
-        (sh : Sheet) (fuel : ℕ) (S : Marks) → MarksOf (fields_of sh) S → (ρ : Telling) → Fair ρ
-        → (ns : List ℕ) (u : Trace) (c : Outcome) (k : List ℕ) → Run sh fuel S u c → Told ρ ns u k
-        → (t : Trace) (a : Outcome) (l : List ℕ) → Run sh fuel S t a → Told ρ ns t l
-        → (t ≡ u) × (a ≡ c) × (l ≡ k)
-    only sh fuel S B ρ fair ns u c k r p t a l x y = go (run_fork sh fuel S B x r)
-      where
-        go : Fork Issued t a u c → (t ≡ u) × (a ≡ c) × (l ≡ k)
-        go (same q z) = (q, z, one_rest ρ fair p (subst (λ (i : Trace). Told ρ ns i l) q y))
-        go (apart q z) = absurd (not_apart ρ fair q y p)

@@ -1,5 +1,5 @@
 -- A mark reads in one way; its calls are the fuel used; more fuel changes nothing that was not spent.
-use Rattle.std.proofs.Common.{◌≡◌, ℕ, zero, suc, ◌+◌, ◌-◌, ◌<◌, ◌≤◌, Bool, true, false, ◌≢◌, List, [], map, sym, refl, ap, ◌∙◌, subst, subst₂, not-suc-le-zero, arith}
+use Rattle.std.proofs.Common.{◌≡◌, ℕ, zero, suc, ◌+◌, ◌-◌, ◌<◌, ◌≤◌, Bool, true, false, ◌≢◌, List, [], map, sym, refl, ap, ◌∙◌, subst, subst₂, not-suc-le-zero, arith, rules}
 use mathlib.Core.Bool.{Bool-discrete}
 use borrow.Author.Tests.{clash}
 use Rattle.formula.specs.declared.Join.{Join}
@@ -14,7 +14,7 @@ use Rattle.meaning.specs.ReadingLaws.{FormulasRead, CallsSpend, Checkings}
 -- Answers
 
 pub out_not_said : (b : Bool) (k : ℕ) → ran_out ≡ said b k → ⊥
-out_not_said b k p = let z : ◌≡◌ {A = ℕ} 0 1 = cc in omega arith
+out_not_said b k p = cc
 
 pub said_result : {b c : Bool} {k l : ℕ} → said b k ≡ said c l → b ≡ c
 said_result p = cc
@@ -161,9 +161,7 @@ left_raised (said b k) h = refl
 left_raised ran_out h = absurd (h refl)
 
 verdict_raised : (a : Answer) → verdict (raised a) ≡ verdict a
-verdict_raised (said true k) = refl
-verdict_raised (said false k) = refl
-verdict_raised ran_out = refl
+verdict_raised = search rules
 
 -- Checks
 
@@ -190,12 +188,12 @@ module _ (s : Sheet) (m : List ℕ) where
   few_calls (in_range p r) = let h = calls_spend (rules_of s) m r in omega arith
 
   not_spent : (a : Answer) → verdict a ≡ spent → a ≡ ran_out
-  not_spent (said true k) p = absurd (let z : ◌≡◌ {A = ℕ} 0 1 = cc in omega arith)
-  not_spent (said false k) p = absurd (let z : ◌≡◌ {A = ℕ} 0 1 = cc in omega arith)
+  not_spent (said true k) p = absurd (cc)
+  not_spent (said false k) p = absurd (cc)
   not_spent ran_out p = refl
 
   all_spent : {fuel : ℕ} {v : Verdict} {c : ℕ} → Checks s m fuel v c → v ≡ spent → c ≡ fuel
-  all_spent (out_of_range p) h = absurd (let z : ◌≡◌ {A = ℕ} 0 1 = cc in omega arith)
+  all_spent (out_of_range p) h = absurd (cc)
   all_spent (in_range {a = a} p r) h =
       let g = calls_spend (rules_of s) m r in
       omega (arith, ap left (not_spent a h))
@@ -248,9 +246,9 @@ module _ {s : Sheet} {fuel : ℕ} {m : List ℕ} where
           (a : Answer) → Reads (rules_of s) m [] (mark_line s) fuel a → verdict a ≡ allowed
           → (k : ℕ) × Reads (rules_of s) m [] (mark_line s) fuel (said true k)
       by_answer (said true k) r h = (k, r)
-      by_answer (said false k) r h = absurd (let z : ◌≡◌ {A = ℕ} 0 1 = cc in omega arith)
-      by_answer ran_out r h = absurd (let z : ◌≡◌ {A = ℕ} 0 1 = cc in omega arith)
+      by_answer (said false k) r h = absurd (cc)
+      by_answer ran_out r h = absurd (cc)
 
       go : {v : Verdict} {c : ℕ} → Checks s m fuel v c → v ≡ allowed → ReadsTrue s fuel m
-      go (out_of_range p) h = absurd (let z : ◌≡◌ {A = ℕ} 0 1 = cc in omega arith)
+      go (out_of_range p) h = absurd (cc)
       go (in_range {a = a} p r) h = (p, by_answer a r h)

@@ -1,14 +1,15 @@
 -- The laws of whole runs.
-use Rattle.std.proofs.Common.{◌≡◌, ℕ, zero, suc, Bool, true, false, ◌&&◌, ◌≢◌, ◌⊎◌, List, [], ◌∷◌, ◌++◌, length, get_or, sym, refl, ap, ◌∙◌, subst, ap₂, inl, inr, arith, eq-eqb}
+use Rattle.std.proofs.Common.{◌≡◌, ℕ, zero, suc, Bool, true, false, ◌&&◌, ◌≢◌, ◌⊎◌, List, [], ◌∷◌, ◌++◌, length, get_or, sym, refl, ap, ◌∙◌, subst, ap₂, arith, eq-eqb}
+use Rattle.std.proofs.lemmas.Bool.{and_from, and_parts, both_ways, true_from_ne_false}
 use mathlib.Core.Path.{fun_ext}
-use mathlib.Core.Bool.{and-true, Bool-discrete}
+use mathlib.Core.Bool.{and-true}
 use Rattle.formula.specs.Trees.{Formula, Range, range, Rule, Sheet}
 use Rattle.formula.specs.declared.Comparison.TheVariants.{AtMost, AtLeast}
 use Rattle.formula.specs.Comparing.{holds}
 use Rattle.marks.specs.Sets.{Marks, Empty, MarksOf, kept}
 use Rattle.meaning.specs.Terms.{rules_of, mark_line, ranges_of, fields_of}
 use Rattle.meaning.specs.Reading.{said, Reads, ranged, Allowed}
-use Rattle.meaning.specs.Traces.{Trace, Within, none, Apart}
+use Rattle.meaning.specs.Traces.{Trace, Apart}
 use Rattle.meaning.specs.Matching.{Argument, the_field, Settles, known, chosen, State, live, dead, spent}
 use Rattle.meaning.specs.Matching.{Lives, some_left, none_left, Matches, stays_dead, stays_spent, compares}
 use Rattle.meaning.specs.Matching.{calls, calls_out, negates, picks, both_sides, left_side, right_side}
@@ -16,13 +17,12 @@ use Rattle.meaning.specs.Runs.{Outcome, mark, dead_end, spent_run, Ends, ended, 
 use Rattle.meaning.specs.Runs.{at_dead, at_spent, inside, Run, runs}
 use Rattle.meaning.specs.RunLaws.{RunsLawful, kept_ranges, RangesKeep}
 use Rattle.meaning.proofs.Readings.{reads_allowed, allowed_reads}
-use Rattle.meaning.proofs.Basics.{and_left, and_right, and_both}
-use Rattle.meaning.proofs.Values.{in_get_or}
+use Rattle.marks.proofs.Counted.{in_get_or}
 use Rattle.meaning.proofs.Counting.{Counted, counted, counted_part}
 use Rattle.meaning.proofs.Soundness.{Held, fuel_of, settles_sound, lives_sound, sound}
-use Rattle.meaning.proofs.Forks.{Fork, same, apart, follow, onward, Has, settles_fork, lives_one}
+use Rattle.meaning.proofs.Forks.{Fork, same, follow, onward, either, at_most, Has, settles_fork, lives_one}
 use Rattle.meaning.proofs.Forks.{matches_fork}
-use Rattle.meaning.proofs.Parting.{within_join, settles_within, matches_within}
+use Rattle.meaning.proofs.Entries.{run_within}
 use Rattle.meaning.proofs.Completeness.{settles_complete, complete}
 
 -- the numbers of a mark from field f on, c of them
@@ -38,8 +38,8 @@ slice_cons f (suc c) x m = ap {B = List ℕ} (λ l. get_or m f 0 ∷ l) (slice_c
 slice_all : (c : ℕ) (m : List ℕ) → length m ≡ c → slice 0 c m ≡ m
 unfolding slice
 slice_all zero [] p = refl
-slice_all zero (x ∷ m) p = absurd (let z : ⊥ = omega arith in z)
-slice_all (suc c) [] p = absurd (let z : ⊥ = omega arith in z)
+slice_all zero (x ∷ m) p = absurd (omega arith)
+slice_all (suc c) [] p = absurd (omega arith)
 slice_all (suc c) (x ∷ m) p = ap {B = List ℕ} (λ l. x ∷ l) (slice_cons 0 c x m ∙ slice_all c m (omega arith))
 
 ends_sound :
@@ -60,17 +60,13 @@ ends_fork ended ended = same refl refl
 ends_fork (ends {f = f} {c = c} p r) {Q} (ends {u = u} {vs = ds} q s) =
     follow (settles_fork p q)
     (λ z.
-    onward {hold = Has {X = List ℕ}} (ends_fork r (subst (λ (X : Marks). Ends (suc f) c X u Q ds)
-    (sym (ap (λ (y : Marks × ℕ). y.0) z)) s))
+    onward {hold = Has {X = List ℕ}}
+    (ends_fork r (subst (λ (y : Marks × ℕ). Ends (suc f) c y.0 u Q ds) (sym z) s))
     (λ y. ap₂ {C = Marks × List ℕ} (λ (x : Marks × ℕ) (y : Marks × List ℕ). (y.0, x.1 ∷ y.1)) z y)
     (λ m h. h)
     (λ m h. h))
     (λ m h. (ends_sound r m h).0)
     (λ m h. (ends_sound s m h).0)
-
-ends_within : {f c : ℕ} {S P : Marks} {t : Trace} {vs : List ℕ} → Ends f c S t P vs → Within t
-ends_within ended = none
-ends_within (ends s r) = within_join (settles_within s) (ends_within r)
 
 ends_complete :
     (f c : ℕ) (S : Marks) → Counted S → (m : List ℕ) → S m ≡ true
@@ -99,7 +95,7 @@ pub settles_alive :
 settles_alive (known V) x y = x y
 settles_alive {S} (chosen {f = f} {vs = vs} k V n h) x y =
     V.only (get_or vs k 0) (in_get_or vs k h) (λ m p q.
-    y m (and_both (S m) _ p (eq-eqb (get_or m f 0) (get_or vs k 0) q)))
+    y m (and_from (S m) _ p (eq-eqb (get_or m f 0) (get_or vs k 0) q)))
 
 ends_alive :
     {f c : ℕ} {S P : Marks} {t : Trace} {vs : List ℕ} → Ends f c S t P vs → (Empty S → ⊥) → Empty P → ⊥
@@ -134,16 +130,10 @@ Issued spent_run m = ⊥
 ends_held :
     {w : ℕ} {S P : Marks} {t : Trace} {vs : List ℕ} → ((m : List ℕ) → S m ≡ true → length m ≡ w)
     → Ends 0 w S t P vs → (Empty S → ⊥) → P vs ≡ true
-ends_held {w} {S} {P} {vs = vs} long d x = go (Bool-discrete (P vs) true)
-  where
-    go : Dec (P vs ≡ true) → P vs ≡ true
-    go (yes p) = p
-    go (no n) =
-        absurd
-        (ends_alive d x
-        (λ m h.
-        let q = ends_sound d m h in
-        n (subst (λ (l : List ℕ). P l ≡ true) (sym (q.1 ∙ slice_all w m (long m q.0))) h)))
+ends_held {w} {S} {P} {vs = vs} long d x =
+    true_from_ne_false (P vs) (λ n. ends_alive d x (λ m h.
+    let q = ends_sound d m h in
+    both_ways _ n (subst (λ (l : List ℕ). P l ≡ true) (sym (q.1 ∙ slice_all w m (long m q.0))) h)))
 
 ends_issued :
     {w : ℕ} {S P : Marks} {t : Trace} {vs : List ℕ} → ((m : List ℕ) → S m ≡ true → length m ≡ w)
@@ -166,20 +156,6 @@ finishes_fork long x (whole d) (whole e) =
 finishes_fork long x at_dead at_dead = same refl refl
 finishes_fork long x at_spent at_spent = same refl refl
 
-finishes_within : {w : ℕ} {o : State} {t : Trace} {a : Outcome} → Finishes w o t a → Within t
-finishes_within (whole d) = ends_within d
-finishes_within at_dead = none
-finishes_within at_spent = none
-
-either : {a c : Outcome} {t u : Trace} → Fork Issued t a u c → ((t ≡ u) × (a ≡ c)) ⊎ Apart t u
-either (same p q) = inl (p, q)
-either (apart x y) = inr x
-
-pub at_most :
-    {a c : Outcome} {t u : Trace} → Fork Issued t a u c → (m : List ℕ) → Issued a m → Issued c m → t ≡ u
-at_most (same p q) m h g = p
-at_most (apart x y) m h g = absurd (y m h g)
-
 module _ (sh : Sheet) (fuel : ℕ) (S : Marks) (B : MarksOf (fields_of sh) S) where
   -- what a run's match leaves are marks of the starting set
   kept_inside :
@@ -192,7 +168,7 @@ module _ (sh : Sheet) (fuel : ℕ) (S : Marks) (B : MarksOf (fields_of sh) S) wh
       {i o : State} {t : Trace} → Lives fuel (inside S (ranges_of sh)) i
       → Matches (rules_of sh) [] (mark_line sh) true i t o → (m : List ℕ) → Held o m
       → length m ≡ fields_of sh
-  length_of l x m h = (B m (and_left (S m) _ (kept_inside l x m h))).0
+  length_of l x m h = (B m (and_parts (S m) _ (kept_inside l x m h)).0).0
 
   pub run_fork :
       {t : Trace} {a : Outcome} → Run sh fuel S t a → {u : Trace} {c : Outcome} → Run sh fuel S u c
@@ -210,9 +186,6 @@ module _ (sh : Sheet) (fuel : ℕ) (S : Marks) (B : MarksOf (fields_of sh) S) wh
       → ((t ≡ u) × (a ≡ c)) ⊎ Apart t u
   run_part t u a c x y = either (run_fork x y)
 
-  pub run_within : {t : Trace} {a : Outcome} → Run sh fuel S t a → Within t
-  run_within (runs l x f) = within_join (matches_within (rules_of sh) x) (finishes_within f)
-
   pub run_sound :
       {t : Trace} {a : Outcome} → Run sh fuel S t a → (m : List ℕ) → Issued a m
       → (S m ≡ true) × Allowed sh fuel m
@@ -220,9 +193,9 @@ module _ (sh : Sheet) (fuel : ℕ) (S : Marks) (B : MarksOf (fields_of sh) S) wh
       let h = finishes_held (length_of l x) (matches_alive (rules_of sh) x) f m p in
       let r = sound (rules_of sh) m x h in
       let z = lives_sound l m r.0 in (
-        and_left (S m) _ z.0,
+        (and_parts (S m) _ z.0).0,
         reads_allowed (
-          and_right (S m) _ z.0,
+          (and_parts (S m) _ z.0).1,
           (
             fuel_of o,
             subst (λ (n : ℕ). Reads (rules_of sh) m [] (mark_line sh) n (said true (fuel_of o)))
@@ -236,9 +209,9 @@ module _ (sh : Sheet) (fuel : ℕ) (S : Marks) (B : MarksOf (fields_of sh) S) wh
       → (t : Trace) × Run sh fuel S t (mark m) × ((u : Trace) → Run sh fuel S u (mark m) → t ≡ u)
   run_complete m h x =
       let a = allowed_reads x in
-      let in_it : inside S (ranges_of sh) m ≡ true = and_both (S m) _ h a.0 in
+      let in_it : inside S (ranges_of sh) m ≡ true = and_from (S m) _ h a.0 in
       let C = counted_part S (inside S (ranges_of sh)) (counted (fields_of sh) S B)
-      (λ m h. and_left (S m) _ h) in
+      (λ m h. (and_parts (S m) _ h).0) in
       let x = complete (rules_of sh) m a.1.1 [] refl true a.1.0 refl (inside S (ranges_of sh)) C
       in_it in
       let y = ends_complete 0 (fields_of sh) x.1 (counted_part (inside S (ranges_of sh)) x.1 C
@@ -257,7 +230,7 @@ run_laws =
     λ sh fuel S B.
     record {
       part = run_part sh fuel S B;
-      within = λ t a x. run_within sh fuel S B x;
+      within = λ t a x. run_within x;
       sound = λ t m x. run_sound sh fuel S B x m refl;
       complete = run_complete sh fuel S B;
       differ = run_differ sh fuel S B;

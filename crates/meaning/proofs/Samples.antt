@@ -1,5 +1,6 @@
 -- The worked examples, computed: the proof that picks tell a run is an evaluator of runs.
-use Rattle.std.proofs.Common.{◌≡◌, ℕ, Bool, true, false, ◌||◌, ◌⊎◌, List, [], ◌∷◌, length, sym, refl, ap₂, inl, inr, arith, eqb-true}
+use Rattle.std.proofs.Common.{◌≡◌, ℕ, true, List, [], ◌∷◌, length, sym, refl, ap₂, inl, inr, ⊎_elim, arith, eqb-true}
+use Rattle.std.proofs.lemmas.Bool.{and_parts, or_cases}
 use borrow.Author.Tests.{clash}
 use Rattle.formula.specs.Trees.{Sheet}
 use Rattle.marks.specs.Sets.{Marks}
@@ -14,7 +15,6 @@ use Rattle.meaning.specs.Walks.{no_entry, zero_more, no_raise, last_more, raised
 use Rattle.meaning.specs.Walks.{WholeWalk}
 use Rattle.meaning.specs.Samples.{small, every, equal, in_rows, shelf_sheet, odd_sheet, box_sheet, rows}
 use Rattle.meaning.specs.Samples.{top_sheet, Samples}
-use Rattle.meaning.proofs.Basics.{and_left, and_right}
 use Rattle.meaning.proofs.Counting.{Counted, counted_part}
 use Rattle.meaning.proofs.Completeness.{unknown_dec}
 use Rattle.meaning.proofs.Listed.{Mem, counted_list}
@@ -36,7 +36,7 @@ module _ (ρ : Telling) (fair : Fair ρ) where
   runs_by sh fuel S C ns = run_told ρ fair sh fuel S C ns
 
 every_long : (n : ℕ) (m : List ℕ) → every n m ≡ true → length m ≡ n
-every_long n m h = eqb-true (length m) n (and_left _ (small m) h)
+every_long n m h = eqb-true (length m) n (and_parts _ (small m) h).0
 
 counts : (sh : Sheet) → Counted (inside (every (fields_of sh)) (ranges_of sh))
 unfolding counted_box counted_list counted_part
@@ -107,24 +107,19 @@ equal_same [] [] h = refl
 equal_same [] (w ∷ r) h = absurd (clash h)
 equal_same (v ∷ m) [] h = absurd (clash h)
 equal_same (v ∷ m) (w ∷ r) h =
-    ap₂ {C = List ℕ} ◌∷◌ (eqb-true v w (and_left _ (equal m r) h))
-    (equal_same m r (and_right _ (equal m r) h))
+    ap₂ {C = List ℕ} ◌∷◌ (eqb-true v w (and_parts _ (equal m r) h).0)
+    (equal_same m r (and_parts _ (equal m r) h).1)
 
 row_listed : (l : List (List ℕ)) (m : List ℕ) → in_rows l m ≡ true → Mem m l
 row_listed [] m h = absurd (clash h)
-row_listed (r ∷ l) m h = go (equal m r) refl (row_listed l m) h
-  where
-    go :
-        (b : Bool) → equal m r ≡ b → (in_rows l m ≡ true → Mem m l) → (b || in_rows l m) ≡ true
-        → (m ≡ r) ⊎ Mem m l
-    go true p f h = inl (equal_same m r p)
-    go false p f h = inr (f h)
+row_listed (r ∷ l) m h =
+    ⊎_elim (λ p. inl (equal_same m r p)) (λ q. inr (row_listed l m q)) (or_cases (equal m r) (in_rows l m) h)
 
 row_counts : Counted (inside (in_rows rows) (ranges_of box_sheet))
 unfolding counted_list counted_part
 row_counts =
     counted_list rows (inside (in_rows rows) (ranges_of box_sheet))
-    (λ m h. row_listed rows m (and_left (in_rows rows m) _ h))
+    (λ m h. row_listed rows m (and_parts (in_rows rows m) _ h).0)
 
 register : WholeWalk box_sheet 255 (in_rows rows) (mark (1 ∷ 0 ∷ []) ∷ mark (2 ∷ 5 ∷ []) ∷ [])
 unfolding runs_by row_counts

@@ -1,20 +1,19 @@
 -- A live match keeps only marks that read as the target.
-use Rattle.std.proofs.Common.{◌≡◌, ℕ, Bool, true, List, ◌∷◌, map, get_or, sym, refl, ap, ◌∙◌, subst, ap₂, subst₂, eqb-true}
+use Rattle.std.proofs.Common.{◌≡◌, ℕ, Bool, true, List, ◌∷◌, map, sym, refl, ap, ◌∙◌, subst, ap₂, subst₂, rules}
+use Rattle.std.proofs.lemmas.Bool.{and_parts}
 use mathlib.Core.Bool.{not-not}
 use Rattle.formula.specs.Trees.{Term, Formula, compare, negate, Rule}
 use Rattle.formula.specs.Comparing.{holds}
-use Rattle.formula.specs.declared.Comparison.{Comparison}
 use Rattle.marks.specs.Sets.{Marks}
 use Rattle.meaning.specs.Terms.{body, shifted, value}
 use Rattle.meaning.specs.Reading.{said, Reads, tells, called, turns, picked, left_only, right_too}
 use Rattle.meaning.specs.Traces.{Trace}
-use Rattle.meaning.specs.Matching.{Argument, at, Settles, number, known, chosen, Resolves, numeral}
+use Rattle.meaning.specs.Matching.{Argument, at, Settles, Resolves, numeral}
 use Rattle.meaning.specs.Matching.{as_it_is, settled, Passes, no_more, passes, LeavesOne, left_first}
 use Rattle.meaning.specs.Matching.{at_most_one, State, live, dead, spent, Lives, some_left, none_left}
 use Rattle.meaning.specs.Matching.{Matches, stays_dead, stays_spent, compares, calls, calls_out, negates}
 use Rattle.meaning.specs.Matching.{picks, both_sides, left_side, right_side}
-use Rattle.meaning.proofs.Basics.{and_left, and_right, other, aimed_holds, at_arg}
-use Rattle.meaning.proofs.Values.{in_one}
+use Rattle.meaning.proofs.Basics.{other, aimed_holds, at_arg}
 
 -- the state's set holds m
 abbrev pub Held : State → List ℕ → Type 0
@@ -31,10 +30,7 @@ fuel_of spent = 0
 pub settles_sound :
     {S P : Marks} {a : Argument} {t : Trace} {v : ℕ} → Settles S a t P v → (m : List ℕ) → P m ≡ true
     → (S m ≡ true) × (v ≡ at m a)
-settles_sound number m h = (h, refl)
-settles_sound (known V) m h = (h, in_one _ _ (V.all m h))
-settles_sound {S} (chosen {f = f} {vs = vs} k V n l) m h =
-    (and_left (S m) _ h, sym (eqb-true (get_or m f 0) (get_or vs k 0) (and_right (S m) _ h)))
+settles_sound = search rules
 
 pub resolves_sound :
     {e : List Argument} {S P : Marks} {r : Term} {t : Trace} {a : Argument} → Resolves e S r t P a
@@ -66,12 +62,6 @@ lives_sound (some_left x) m h = (h, refl)
 lives_sound (none_left x) m h = absurd h
 
 module _ (rules : List Rule) (m : List ℕ) where
-  pub tells_as :
-      (e : List ℕ) (l : Term) (s : Comparison) (r : Term) (n k : ℕ) (b : Bool)
-      → holds s (value m e l) (value m e r) ≡ b → n ≡ k → Reads rules m e (compare l s r) n (said b k)
-  tells_as e l s r n k b p q =
-      subst₂ (λ (b : Bool) (k : ℕ). Reads rules m e (compare l s r) n (said b k)) p q tells
-
   pub sound :
       {e : List Argument} {F : Formula} {b : Bool} {i o : State} {t : Trace} → Matches rules e F b i t o
       → Held o m → Held i m × Reads rules m (map (at m) e) F (fuel_of i) (said b (fuel_of o))
@@ -79,15 +69,15 @@ module _ (rules : List Rule) (m : List ℕ) where
   sound stays_spent h = absurd h
   sound {e} (compares {l = l} {c = s} {r = r} {b = b} {n = n} {S₃ = S₃} {x = x} {y = y} {o = o} p q w z) h =
       let hz = lives_sound z m h in
-      let h₃ : S₃ m ≡ true = and_left (S₃ m) _ hz.0 in
+      let h₃ : S₃ m ≡ true = (and_parts (S₃ m) _ hz.0).0 in
       let hb : holds s (at m x) (at m y) ≡ b = aimed_holds b s (at m x) (at m y)
-      (and_right (S₃ m) _ hz.0) in
+      (and_parts (S₃ m) _ hz.0).1 in
       let h₂ = leaves_sound w m h₃ in
       let hq = resolves_sound q m h₂ in
       let hp = resolves_sound p m hq.0 in (
         hp.0,
-        tells_as (map (at m) e) l s r n (fuel_of o) b (ap₂ (holds s) (sym hp.1) (sym hq.1) ∙ hb)
-            hz.1,
+        subst₂ (λ (b : Bool) (k : ℕ). Reads rules m (map (at m) e) (compare l s r) n (said b k))
+            (ap₂ (holds s) (sym hp.1) (sym hq.1) ∙ hb) hz.1 tells,
       )
   sound {e} (calls {r = r} {b = b} {n = n} {o = o} p q) h =
       let hq = sound q h in

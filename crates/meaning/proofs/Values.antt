@@ -1,10 +1,8 @@
 -- The numbers that a field takes are one list.
-use Rattle.std.proofs.Common.{◌≡◌, ℕ, zero, suc, ◌<◌, List, [], ◌∷◌, length, get_or, sym, refl, ap, subst, ap₂, inl, inr, le_of_suc-le-suc, not-suc-le-zero, arith}
+use Rattle.std.proofs.Common.{◌≡◌, ℕ, zero, suc, ◌<◌, List, [], ◌∷◌, length, get_or, sym, refl, ap, subst, ap₂, inl, inr, le_of_suc-le-suc, not-suc-le-zero, arith, rules}
 use native.Mathlib.Decide.{ℕ_discrete}
 use Rattle.marks.specs.Sets.{Marks, In, Ascending, Values}
-
-pub in_cast : (vs : List ℕ) (v w : ℕ) → v ≡ w → In v vs → In w vs
-in_cast vs v w p i = subst (λ (x : ℕ). In x vs) p i
+use Rattle.marks.proofs.Counted.{in_get_or}
 
 pub in_dec : (v : ℕ) (vs : List ℕ) → Dec (In v vs)
 in_dec v [] = no (λ x. x)
@@ -14,11 +12,6 @@ in_dec v (x ∷ xs) = go (ℕ_discrete v x) (in_dec v xs)
     go (yes p) d = yes (inl p)
     go (no n) (yes i) = yes (inr i)
     go (no n) (no k) = no (elim [ inl p ↦ n p | inr i ↦ k i ])
-
-pub in_get_or : (vs : List ℕ) (k : ℕ) → k < length vs → In (get_or vs k 0) vs
-in_get_or [] k h = absurd (not-suc-le-zero h)
-in_get_or (x ∷ xs) zero h = inl refl
-in_get_or (x ∷ xs) (suc k) h = inr (in_get_or xs k (le_of_suc-le-suc h))
 
 pub in_index : (vs : List ℕ) (v : ℕ) → In v vs → (k : ℕ) × (k < length vs) × (get_or vs k 0 ≡ v)
 in_index [] v i = absurd i
@@ -45,18 +38,10 @@ same_index (x ∷ xs) a (suc k) (suc j) h g p =
 least :
     (x y : ℕ) (xs ys : List ℕ) → Ascending (x ∷ xs) → Ascending (y ∷ ys) → In x (y ∷ ys) → In y (x ∷ xs)
     → x ≡ y
-least x y xs ys a b (inl p) j = p
-least x y xs ys a b (inr i) (inl q) = sym q
-least x y xs ys a b (inr i) (inr j) =
-    let p : y < x = b.0 x i in
-    let q : x < y = a.0 y j in
-    omega arith
+least = search rules
 
 past : (x y : ℕ) (xs ys : List ℕ) → x ≡ y → Ascending (x ∷ xs) → (v : ℕ) → In v xs → In v (y ∷ ys) → In v ys
-past x y xs ys p a v i (inl q) =
-    let l : x < v = a.0 v i in
-    absurd (let z : ⊥ = omega arith in z)
-past x y xs ys p a v i (inr j) = j
+past = search rules
 
 pub one_list :
     (vs ws : List ℕ) → Ascending vs → Ascending ws → ((v : ℕ) → In v vs → In v ws)
@@ -75,7 +60,7 @@ part S f vs ws V W v i = go (in_dec v ws)
   where
     go : Dec (In v ws) → In v ws
     go (yes j) = j
-    go (no n) = absurd (V.only v i (λ m h e. n (in_cast ws _ v e (W.all m h))))
+    go (no n) = absurd (V.only v i (λ m h e. n (subst (λ (x : ℕ). In x ws) e (W.all m h))))
 
 pub values_one : (S : Marks) (f : ℕ) (vs ws : List ℕ) → Values S f vs → Values S f ws → vs ≡ ws
 values_one S f vs ws V W =

@@ -14,8 +14,9 @@ use Rattle.grammar.specs.Tables.{node_at, fields_of, rules_of, Entries, Rules, L
 use Rattle.sheet.specs.declared.node.Node.{Node}
 use Rattle.names.specs.Lists.{Stands, here, there, In, this, that}
 use Rattle.names.specs.Faults.{sizes, FieldFault, field_taken, wrong_range, many_fields, RuleFault, rule_taken, param_taken, rule_formula, many_rules, rule_passes, MarkFault, mark_formula, mark_passes, Faulty, in_field, in_rule, in_mark, First, NoLater}
-use Rattle.names.specs.Looking.{Best, Settles, EntriesNumbered, no_rule_line, FieldsFault, RulesFault, FieldsSettled, RulesSettled, MarkSettled, RulesNumbered, AllNumbered, LinesSettled, SameOutside, Numbered, rule_params}
+use Rattle.names.specs.Looking.{Best, Settles, EntriesNumbered, no_rule_line, FieldsFault, RulesFault, FieldsSettledWith, RulesSettledWith, MarkSettled, RulesNumbered, AllNumbered, LinesSettled, SameOutside, Numbered, rule_params}
 use Rattle.names.proofs.Search.{stands_in}
+use Rattle.names.proofs.Once.{once_all}
 use Rattle.names.proofs.Places.{in_left, in_right, in_map, stands_length, stands_after, stands_once}
 use Rattle.names.proofs.Ordered.{before_in}
 use Rattle.names.proofs.Runs.{settles_like}
@@ -195,8 +196,8 @@ pub record Kept (text : List ℕ) (t : Table) (s : Sheet) : Type 0 where
 mark_up : (fs : List Field) (rs : List Rule) (m : Mark) → WellRead (sheet fs rs m) → Rising (flat field_own fs (flat rule_own rs (mark_own m)))
 mark_up fs rs (mark_line p f) well = subst Rising (sheet_flat fs rs p f) well.4
 
-not_both : {A : Type 0} {o : Option A} {x : A} → o ≡ None → o ≡ Some x → ⊥
-not_both a b = let z : ◌≡◌ {A = ℕ} 0 1 = cc in omega arith
+pub not_both : {A : Type 0} {o : Option A} {x : A} → o ≡ None → o ≡ Some x → ⊥
+not_both a b = cc
 
 -- the first line that is not kept is at fault at its first word, and that comes first
 module _ (fs gs : List Field) (m : Mark) (all : List Field) (every : List Rule) (ea : all ≡ fs ++ gs)
@@ -300,24 +301,16 @@ module _ (fs : List Field) (rs : List Rule) (p : ℕ) (f : Formula)
   at_mark n q (mark_formula h) = inl (before_in (formula_places f) up_mark.0 (formula_fault_in f h))
   at_mark n q (mark_passes h) = inr (refl, omega arith)
 
-  -- where all lines are kept, the rest is the mark line
-  pub rest_mark : (n q : ℕ) → Rest fs [] rs [] (mark_line p f) fs rs ea ee context up n q → MarkFault fs rs (mark_line p f) n q
-  unfolding Rest
-  rest_mark n q x =
-      ⊎_elim (λ y. let short = stands_length y.2 in let h = y.3 in absurd (omega arith))
-      (λ z. ⊎_elim (λ y. let short = stands_length y.2 in let h = y.3 in absurd (omega arith)) (λ y. y) z) x
-
-  pub mark_rest : (n q : ℕ) → MarkFault fs rs (mark_line p f) n q → Rest fs [] rs [] (mark_line p f) fs rs ea ee context up n q
-  unfolding Rest
-  mark_rest n q x = inr (inr x)
-
   pub mark_first : Over (sizes rs) [] f → First (Rest fs [] rs [] (mark_line p f) fs rs ea ee context up) 11 p
   mark_first over =
-      record { fault = mark_rest 11 p (mark_passes over); least = λ n q x. at_mark n q (rest_mark n q x) }
+      record {
+        fault = mark_is_rest fs [] rs [] (mark_line p f) fs rs ea ee context up 11 p (mark_passes over);
+        least = λ n q x. at_mark n q (rest_is_mark fs [] rs [] (mark_line p f) fs rs ea ee context up refl refl n q x);
+      }
 
 -- what a table keeps of the sheet that it holds
 module _ (text : List ℕ) (t : Table) where
-  size_above : {fs : List Field} {rs : List Rule} {e : ℕ} → LinesAbove text t fs rs e → e ≡ sizes rs
+  pub size_above : {fs : List Field} {rs : List Rule} {e : ℕ} → LinesAbove text t fs rs e → e ≡ sizes rs
   size_above above = let h = rules_end text t.nodes.items above.rules_held in omega arith
 
   pub kept : (s : Sheet) → Holds text t s → WellRead s → Kept text t s
@@ -453,13 +446,13 @@ module _ (text : List ℕ) (t : Table) where
         ∙ flat_append rule_own k.rs k.qs (mark_own k.m) ∙ sym (rules_flat k.rs Ys))
         (flat_rest field_own (flat rule_own k.every (mark_own k.m)) k.all k.up)
 
-    fields_best : (r : Result (Unit {0}) Fault) → FieldsSettled text Ls r → Best (FieldsFault k.fs) r
+    fields_best : (r : Result (Unit {0}) Fault) → FieldsSettledWith text Ls r → Best (FieldsFault k.fs) r
     fields_best r h =
         subst (λ z. Best (FieldsFault z) r) k.above.fields_held
         (h Zs (subst (λ z. Rising (fields_places z Zs)) (sym k.above.fields_held) up_fields))
 
     rules_settled :
-        (r : Result (Unit {0}) Fault) (nodes : List Node) → RulesSettled text Ls Ks Raw nodes r
+        (r : Result (Unit {0}) Fault) (nodes : List Node) → RulesSettledWith text Ls Ks Raw nodes r
         → Settles (RulesFault k.fs k.rs) (λ _. RulesNumbered text Ls Ks Raw k.rs (length k.rs) nodes) r
     rules_settled r nodes h =
         subst (λ z. Settles (RulesFault z k.rs) (λ _. RulesNumbered text Ls Ks Raw k.rs (length k.rs) nodes) r) k.above.fields_held
@@ -471,14 +464,14 @@ module _ (text : List ℕ) (t : Table) where
         → Settles (Faulty s) (λ _. (t.over ≡ None) × AllNumbered text t nodes s) r
     at_sheet r nodes b = subst (λ z. Settles (Faulty z) (λ _. (t.over ≡ None) × AllNumbered text t nodes z) r) k.is b
 
-  pub fields_refused : (x : Fault) (nodes : List Node) → FieldsSettled text Ls (Err x) → LinesSettled text t nodes (Err x)
+  pub fields_refused : (x : Fault) (nodes : List Node) → FieldsSettledWith text Ls (Err x) → LinesSettled text t nodes (Err x)
   fields_refused x nodes h s holds well =
       let k = kept text t s holds well in
       at_sheet s k (Err x) nodes
       (first_field k.fs k.gs k.rs k.qs k.m k.all k.every k.ea k.ee k.context k.up (fields_best s k (Err x) h))
 
   pub rules_refused :
-      (x : Fault) (u : Unit {0}) (nodes : List Node) → FieldsSettled text Ls (Ok u) → RulesSettled text Ls Ks Raw nodes (Err x)
+      (x : Fault) (u : Unit {0}) (nodes : List Node) → FieldsSettledWith text Ls (Ok u) → RulesSettledWith text Ls Ks Raw nodes (Err x)
       → LinesSettled text t nodes (Err x)
   rules_refused x u nodes g h s holds well =
       let k = kept text t s holds well in
@@ -488,7 +481,7 @@ module _ (text : List ℕ) (t : Table) where
 
   pub over_refused :
       (p : ℕ) (u v : Unit {0}) (nodes nodes' : List Node) → t.over ≡ Some p
-      → FieldsSettled text Ls (Ok u) → RulesSettled text Ls Ks Raw nodes (Ok v)
+      → FieldsSettledWith text Ls (Ok u) → RulesSettledWith text Ls Ks Raw nodes (Ok v)
       → LinesSettled text t nodes' (Err (record { refusal = TooMany; place = p }))
   over_refused p u v nodes nodes' o g h s holds well =
       let k = kept text t s holds well in
@@ -514,7 +507,7 @@ module _ (text : List ℕ) (t : Table) where
 
   pub mark_answered :
       (r : Result (Unit {0}) Fault) (x y : Unit {0}) (nodes nodes' : List Node) → t.over ≡ None
-      → FieldsSettled text Ls (Ok x) → RulesSettled text Ls Ks Raw nodes (Ok y)
+      → FieldsSettledWith text Ls (Ok x) → RulesSettledWith text Ls Ks Raw nodes (Ok y)
       → MarkSettled text Ls Ks Raw t.mark nodes' r → SameOutside nodes nodes' t.mark.start (t.mark.body + 1)
       → LinesSettled text t nodes' r
   mark_answered r x y nodes nodes' o g h settled same s holds well =
@@ -525,7 +518,7 @@ module _ (text : List ℕ) (t : Table) where
       let up_m : Rising (formula_places w.body) =
       (subst (λ z. Rising (mark_own z)) w.is
       (flat_rest rule_own (mark_own k.m) k.every (flat_rest field_own (flat rule_own k.every (mark_own k.m)) k.all k.up))).1 in
-      let mark = settled k.rs w.first w.body (rules_heads text Raw k.above.rules_held) w.entries w.within up_m in
+      let mark = settled k.rs w.first w.body (rules_heads text Raw k.above.rules_held) (once_all k.fs k.rs (λ i x st n p f. rules.0 n p (i, x, st, f))) w.entries w.within up_m in
       let Mark : Type 0 = EntriesNumbered text Ls Raw k.rs [] nodes' t.mark.start (t.mark.body + 1) in
       let best : Settles (MarkFault k.all k.every k.m) (λ _. Mark) r =
       subst (λ z. Settles (MarkFault k.all k.every z) (λ _. Mark) r) (sym w.is)

@@ -8,7 +8,7 @@ use Rattle.names.specs.Names.{spelling, Means, a_field, a_param, Calls, the_rule
 use Rattle.names.specs.Faults.{Use, term, call, weight, uses, UseFault, unknown_name, unknown_rule, wrong_terms, zero_weight, FormulaFault, field_name, rule_name, all_names, Taken, sizes, FieldFault, field_taken, wrong_range, many_fields, RuleFault, rule_taken, param_taken, rule_formula, many_rules, rule_passes, MarkFault, mark_formula, mark_passes, Faulty, in_field, in_rule, in_mark}
 use Rattle.names.proofs.Search.{Among, Dec, Search, same_number, same_word, both, below, upto, negate, search_dec, search_iff, search_or, search_among, search_in, find, stands_in, in_stands}
 
-move : (F : ℕ → ℕ → Type 0) {m q n p : ℕ} → n ≡ m → p ≡ q → F m q → F n p
+pub move : (F : ℕ → ℕ → Type 0) {m q n p : ℕ} → n ≡ m → p ≡ q → F m q → F n p
 move F {m} {q} {n} {p} e f x = subst (λ k. F k p) (sym e) (subst (λ k. F m k) (sym f) x)
 
 -- Names
@@ -119,7 +119,7 @@ module _ (fs : List Field) (rs : List Rule) (ps : List Word) where
       subst (λ z. UseFault fs rs ps (weight (num z q)) n p) (sym t.0)
       (move (UseFault fs rs ps (weight (num 0 q))) t.1 t.2 zero_weight)
 
-  weight_from : (v q n p : ℕ) → UseFault fs rs ps (weight (num v q)) n p → (v ≡ 0) × (n ≡ 10) × (p ≡ q)
+  pub weight_from : (v q n p : ℕ) → UseFault fs rs ps (weight (num v q)) n p → (v ≡ 0) × (n ≡ 10) × (p ≡ q)
   weight_from v q n p zero_weight = (refl, refl, refl)
 
   search_terms : (w : Word) (k i : ℕ) (r : Rule) → Search (TermsAt w k i r)

@@ -1,12 +1,14 @@
 -- The entries of a numbered line keep the rules of a sheet.
 use Rattle.std.proofs.Common.{◌≡◌, ℕ, zero, suc, ◌<◌, ◌≤◌, Bool, true, ◌&&◌, List, [], ◌∷◌, ◌++◌, map, length, get_or, take, Option, sym, refl, ap, subst, ⊎_elim, arith}
+use Rattle.std.specs.Cmp.Derive.{both_true}
 use Rattle.std.proofs.str.Laws.{order}
 use Rattle.std.proofs.lemmas.Bool.Decides.{nat_tests}
 use Rattle.formula.specs.declared.Comparison.{Comparison}
 use Rattle.formula.specs.declared.Join.{Join}
 use Rattle.formula.specs.Trees as tree
+use Rattle.grammar.specs.declared.few.Few.{Few}
 use Rattle.grammar.specs.declared.table.Word.{Word as WordEntry}
-use Rattle.grammar.specs.declared.table.Term.{Term as TermEntry}
+use Rattle.grammar.specs.Tables.{TermEntry}
 use Rattle.grammar.specs.declared.table.Weights.{Weights as WeightsEntry}
 use Rattle.grammar.specs.declared.table.Node.{Node as NodeEntry}
 use Rattle.grammar.specs.declared.table.Node.TheVariants.{Compared, Called, Negated, Picked, Joined}
@@ -14,10 +16,10 @@ use Rattle.grammar.specs.Syntax.{Word, num, Term, Weights, absent, given, Formul
 use Rattle.grammar.specs.Tables.{word_of, term_of, weights_of, node_at, Entries, a_comparison, a_call, a_not, a_pick, a_join, SmallTerm, SmallTerms, SmallWeights, SmallFormula}
 use Rattle.sheet.specs.declared.node.Name.{Name}
 use Rattle.sheet.specs.declared.node.Name.TheVariants.{Field as FieldName, Param}
-use Rattle.sheet.specs.declared.node.Shift.{Shift}
-use Rattle.sheet.specs.declared.node.Shift.TheVariants.{Up, Down}
-use Rattle.sheet.specs.declared.node.Term.{Term as SheetTerm}
-use Rattle.sheet.specs.declared.node.Term.TheVariants.{Number as NumberTerm, Bare, Moved}
+use Rattle.formula.specs.declared.term.Shift.{Shift}
+use Rattle.formula.specs.declared.term.Shift.TheVariants.{Up, Down}
+use Rattle.sheet.specs.Table.{SheetTerm}
+use Rattle.formula.specs.declared.term.Term.TheVariants.{Number as NumberTerm, Bare, Moved}
 use Rattle.sheet.specs.declared.node.Node.{Node}
 use Rattle.sheet.specs.declared.node.Line.{Line}
 use Rattle.sheet.specs.Table as table
@@ -29,9 +31,6 @@ use Rattle.names.specs.Faults.{Use, weight, weight_uses, uses}
 use Rattle.names.specs.Looking.{Numbered, numbered_compared, numbered_called, numbered_negated, numbered_picked, numbered_joined}
 use Rattle.names.proofs.Places.{in_left, in_right, stands_length}
 use Rattle.names.proofs.Parts.{entries_size, size_some}
-
-both_true : (x y : Bool) → x ≡ true → y ≡ true → (x && y) ≡ true
-both_true x y e d = grind (arith, nat_tests, e, d)
 
 and_left : (x y : Bool) → (x && y) ≡ true → x ≡ true
 and_left x y e = grind (arith, nat_tests, e)
@@ -62,7 +61,7 @@ term_test : (fields params : ℕ) (x : SheetTerm) → KnownTerm fields params (t
 term_test fields params (NumberTerm n) h = grind (arith, nat_tests, h)
 term_test fields params (Bare b) h = name_test fields params b h
 term_test fields params (Moved b s) h =
-    both_true (known_name fields params b) (known_shift s) (name_test fields params b h.0) (shift_test s h.1)
+    both_true (name_test fields params b h.0) (shift_test s h.1)
 
 terms_test :
     {fs : List Field} {ps : List Word} (ts : List Term) (ys : List SheetTerm)
@@ -70,7 +69,7 @@ terms_test :
 terms_test ts [] each small = refl
 terms_test [] (y ∷ ys) each small = elim each [ ]
 terms_test {fs} {ps} (t ∷ ts) (y ∷ ys) (item h each) small =
-    both_true (known_term (length fs) (length ps) y) (known_terms (length fs) (length ps) ys)
+    both_true
     (term_test (length fs) (length ps) y (term_is_known h small.0)) (terms_test ts ys each small.1)
 
 small_take : (n : ℕ) (ts : List Term) → SmallTerms ts → SmallTerms (take n ts)
@@ -99,11 +98,11 @@ padded_test :
     → known_terms fields params ys ≡ true
 padded_test fields params [] n h z = refl
 padded_test fields params (y ∷ ys) zero h z =
-    both_true (known_term fields params y) (known_terms fields params ys)
+    both_true
     (ap (known_term fields params) (z 0 (omega arith)))
     (padded_test fields params ys zero refl (λ j k. z (suc j) (omega arith)))
 padded_test fields params (y ∷ ys) (suc n) h z =
-    both_true (known_term fields params y) (known_terms fields params ys)
+    both_true
     (and_left (known_term fields params y) (known_terms fields params (take n ys)) h)
     (padded_test fields params ys n (and_right (known_term fields params y) (known_terms fields params (take n ys)) h)
     (λ j k. z (suc j) (omega arith)))
@@ -125,17 +124,17 @@ module _ (text : List ℕ) (raw : List NodeEntry) (nodes : List Node) (fs : List
       → SmallTerm (term_of text t) → SmallTerm (term_of text u) → Good i v
   compared_good i _ (numbered_compared {x = x} {y = y} a b) st su =
       subst (λ n. (known_term (length fs) n x && known_term (length fs) n y) ≡ true) (sym params)
-      (both_true (known_term (length fs) (length ps) x) (known_term (length fs) (length ps) y)
+      (both_true
       (term_test (length fs) (length ps) x (term_is_known a st)) (term_test (length fs) (length ps) y (term_is_known b su)))
 
   called_good :
-      (i : ℕ) {n : ℕ} {v : WordEntry} {ts : List TermEntry} (m : Node) → Numbered text fs rs ps (Called v n ts) m
-      → SmallTerms (map (term_of text) (take n ts)) → Good i m
-  called_good i {n = n} {v = v} {ts = ts} _ (numbered_called {k = k} {xs = ys} {qs = qs} c len each four) small =
+      (i : ℕ) {v : WordEntry} {ts : Few TermEntry} (m : Node) → Numbered text fs rs ps (Called v ts) m
+      → SmallTerms (map (term_of text) (take ts.count ts.items)) → Good i m
+  called_good i {v = v} {ts = ts} _ (numbered_called {k = k} {xs = ys} {qs = qs} c len each four) small =
       let h = calls (word_of text v) k qs c in
       let known : known_terms (length fs) (table.line_at lines l).params ys ≡ true =
       subst (λ z. known_terms (length fs) z ys ≡ true) (sym params)
-      (padded_test (length fs) (length ps) ys n (terms_test (map (term_of text) (take n ts)) (take n ys) each small) four.1) in
+      (padded_test (length fs) (length ps) ys ts.count (terms_test (map (term_of text) (take ts.count ts.items)) (take ts.count ys) each small) four.1) in
       let long = four.0 in
       grind (arith, nat_tests, known, h, len, long)
 

@@ -3,6 +3,7 @@ pub mod Faults
 pub mod Places
 pub mod Verdict
 pub mod Lookups
+pub mod Once
 pub mod Numbering
 pub mod Ordered
 pub mod Terms

@@ -1,5 +1,5 @@
 -- What a search over lines has found.
-use Rattle.std.proofs.Common.{◌≡◌, ℕ, zero, suc, ◌<◌, Bool, true, false, IsTrue, ◌↔◌, List, [], ◌∷◌, length, get_or, Option, Some, None, IsSome, IfSome, MatchOption, MatchBool, sym, refl, subst, arith}
+use Rattle.std.proofs.Common.{◌≡◌, ℕ, zero, suc, ◌<◌, Bool, true, false, IsTrue, ◌↔◌, List, [], ◌∷◌, length, get_or, Option, Some, None, MatchOption, MatchBool, sym, refl, subst, arith}
 use Rattle.std.proofs.lemmas.Bool.{false≢true}
 use Rattle.std.specs.List.{AllWithin, HoldsAt}
 use Rattle.names.specs.Lists.{Stands, here, there}
@@ -34,9 +34,9 @@ holds_stands P xs i lt h =
 pub found_first :
     {A : Type 0} (P : A → Type 0) (xs : List A) (r : Option ℕ)
     → MatchOption r (AllWithin (λ x. P x → ⊥) xs 0 (length xs)) (λ i. (i < length xs) × HoldsAt P xs i × AllWithin (λ x. P x → ⊥) xs 0 i)
-    → Found P xs r × IfSome r (λ i. i < length xs)
-found_first P xs None none = (none_stands P xs none, tt)
-found_first P xs (Some i) h = (holds_stands P xs i h.0 h.1, h.0)
+    → Found P xs r
+found_first P xs None none = none_stands P xs none
+found_first P xs (Some i) h = holds_stands P xs i h.0 h.1
 
 -- what `any` answers
 pub some_found :
@@ -52,8 +52,3 @@ holds h = h.0 refl
 
 pub fails : {P : Type 0} → (IsTrue false ↔ P) → P → ⊥
 fails h p = false≢true (h.1 p)
-
--- what `find` found is one of those that have the property, or there is none
-pub some_if_found : {A : Type 0} (P : A → Type 0) (xs : List A) (r : Option ℕ) → Found P xs r → IsSome r ↔ SomeOf P xs
-some_if_found P xs None none = (λ e. absurd (false≢true e), λ s. absurd (none s.0 s.1 s.2 s.3))
-some_if_found P xs (Some i) h = (λ e. (i, h.0, h.1, h.2), λ s. refl)

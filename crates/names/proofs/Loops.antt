@@ -1,7 +1,7 @@
 -- The loops over field lines and rule lines.
 use Rattle.std.proofs.Common.{◌≡◌, ℕ, zero, suc, ◌+◌, ◌<◌, ◌≤◌, List, [], ◌∷◌, ◌++◌, length, take, Ok, Err, Result, sym, refl, ap, ◌∙◌, subst, inl, ⊎_elim, arith}
 use Rattle.std.proofs.str.Laws.{order}
-use Rattle.std.proofs.lemmas.List.{take-map, length-map}
+use Rattle.std.proofs.lemmas.List.{take-map, length-map, length-take}
 use Rattle.refusal.specs.declared.Fault.{Fault}
 use Rattle.grammar.specs.declared.table.FieldLine.{FieldLine}
 use Rattle.grammar.specs.declared.table.RuleLine.{RuleLine}
@@ -11,8 +11,9 @@ use Rattle.grammar.specs.Tables.{field_of, node_at, Entries, Rules, no_rules, a_
 use Rattle.sheet.specs.declared.node.Node.{Node}
 use Rattle.names.specs.Lists.{Stands, here, there, end, item}
 use Rattle.names.specs.Faults.{sizes, FieldFault, RuleFault}
-use Rattle.names.specs.Looking.{fields_in, Settles, Best, FieldSettled, FieldsSettled, RulesSettled, RulesNumbered, EntriesNumbered, RuleSettled, IsRuleLine, IsHead, Heads, SameOutside, field_at, no_rule_line, rule_at, rule_params, rule_body, rule_places, Numbered}
+use Rattle.names.specs.Looking.{fields_in, Settles, Best, FieldSettled, FieldsSettledWith, RulesSettledWith, RulesNumbered, EntriesNumbered, RuleSettled, IsRuleLine, IsHead, Heads, SameOutside, field_at, no_rule_line, rule_at, rule_params, rule_body, rule_places, Numbered}
 use Rattle.names.proofs.Lookups.{stands_at}
+use Rattle.names.proofs.Once.{once_below}
 use Rattle.names.proofs.Places.{stands_length, stands_once}
 use Rattle.names.proofs.Numbering.{stands_map}
 use Rattle.names.proofs.Parts.{entries_size}
@@ -44,7 +45,7 @@ module _ (text : List ℕ) (ls : List FieldLine) (i : ℕ) (len : i < length ls)
       (subst (λ z. Best (FieldFault z (field_of text line)) r) (sym (take-map (field_of text) i ls)) (settled rising.1.0.0))
 
   pub field_refused :
-      (x : Fault) → FieldsBelow text ls i → FieldSettled text (take i ls) (field_at ls i) (Err x) → FieldsSettled text ls (Err x)
+      (x : Fault) → FieldsBelow text ls i → FieldSettled text (take i ls) (field_at ls i) (Err x) → FieldsSettledWith text ls (Err x)
   field_refused x none settled zs up =
       let line = field_of text (field_at ls i) in
       let h = field_written (Err x) zs settled up line line_stands in
@@ -71,7 +72,7 @@ module _ (text : List ℕ) (ls : List FieldLine) (i : ℕ) (len : i < length ls)
       (order k i)
 
 pub fields_all :
-    (text : List ℕ) (ls : List FieldLine) (i : ℕ) (u : Unit {0}) → length ls ≤ i → FieldsBelow text ls i → FieldsSettled text ls (Ok u)
+    (text : List ℕ) (ls : List FieldLine) (i : ℕ) (u : Unit {0}) → length ls ≤ i → FieldsBelow text ls i → FieldsSettledWith text ls (Ok u)
 fields_all text ls i u at none zs up n p x =
     let lt = stands_length x.2 in
     none zs up x.0 x.1 (omega (arith, length-map ls (field_of text))) x.2 n p x.3
@@ -142,11 +143,6 @@ module _ (text : List ℕ) (nodes : List NodeEntry) where
         starts = h.starts ∙ e;
       }
 
-take_most : {A : Type 0} (n : ℕ) (xs : List A) → length (take n xs) ≤ n
-take_most zero xs = omega arith
-take_most (suc n) [] = omega arith
-take_most (suc n) (x ∷ xs) = let h = take_most n xs in omega arith
-
 sizes_take : (i : ℕ) (rs : List Rule) {r : Rule} → Stands Rule rs i r → (k : ℕ) → i < k → sizes (take i rs) + size (rule_body r) ≤ sizes (take k rs)
 sizes_take _ _ (here {x = rule_line p w ps f}) (suc k) lt = omega arith
 sizes_take _ _ (here {x = rule_line p w ps f}) zero lt = absurd (omega arith)
@@ -183,7 +179,7 @@ module _ (text : List ℕ) (ls : List FieldLine) (ks : List RuleLine) (raw : Lis
         record {
           head = facts.head;
           entries = facts.entries;
-          few_rules = let b = take_most l rs in omega arith;
+          few_rules = omega (arith, length-take l rs);
           within = subst (λ z. Over z (rule_params facts.rule) (rule_body facts.rule) → ⊥) (omega arith) facts.within;
         }
 
@@ -192,15 +188,16 @@ module _ (text : List ℕ) (ls : List FieldLine) (ks : List RuleLine) (raw : Lis
 
     rule_written :
         (r : Result (Unit {0}) Fault) (nodes : List Node) → RuleSettled text ls ks raw l nodes r
+        → ((k : ℕ) (x : Rule) → k < l → Stands Rule rs k x → (n p : ℕ) → RuleFault Ls (take k rs) x n p → ⊥)
         → (x : Rule) → Stands Rule rs l x
         → Settles (RuleFault Ls (take l rs) x)
         (λ _. EntriesNumbered text ls raw (take l rs ++ (x ∷ [])) (rule_params x) nodes Line.start (Line.body + 1)) r
-    rule_written r nodes settled x st =
+    rule_written r nodes settled none x st =
         subst
         (λ z. Settles (RuleFault Ls (take l rs) z)
         (λ _. EntriesNumbered text ls raw (take l rs ++ (z ∷ [])) (rule_params z) nodes Line.start (Line.body + 1)) r)
         (stands_once facts.stands st)
-        (settled (take l rs) facts.rule (heads_take l (rules_heads text raw held)) is_line (own_rising facts.rule facts.stands))
+        (settled (take l rs) facts.rule (heads_take l (rules_heads text raw held)) (once_below Ls rs l none) is_line (own_rising facts.rule facts.stands))
 
     -- the entries of an earlier line stand before those of this line
     earlier_line : (i : ℕ) (x : Rule) → i < l → Stands Rule rs i x → (rule_at ks i).body + 1 ≤ Line.start
@@ -212,10 +209,10 @@ module _ (text : List ℕ) (ls : List FieldLine) (ks : List RuleLine) (raw : Lis
 
   pub rule_refused :
       (x : Fault) (nodes nodes' : List Node) → RulesBelow text ls ks raw l nodes → RuleSettled text ls ks raw l nodes' (Err x)
-      → RulesSettled text ls ks raw nodes' (Err x)
+      → RulesSettledWith text ls ks raw nodes' (Err x)
   rule_refused x nodes nodes' none settled rs e zs held up =
       let at = facts rs e zs held up in
-      let h = rule_written rs e zs held up (Err x) nodes' settled at.rule at.stands in
+      let h = rule_written rs e zs held up (Err x) nodes' settled (none rs e zs held up).0 at.rule at.stands in
       record {
         fault = (l, at.rule, at.stands, h.fault);
         least = λ m q y.
@@ -237,7 +234,7 @@ module _ (text : List ℕ) (ls : List FieldLine) (ks : List RuleLine) (raw : Lis
         λ k x lt st n p y.
             ⊎_elim (λ less. old.0 k x less st n p y)
             (λ ge. let is : k ≡ l = omega arith in
-            (rule_written rs e zs held up (Ok u) nodes' settled x (subst (λ z. Stands Rule rs z x) is st)).0 n p
+            (rule_written rs e zs held up (Ok u) nodes' settled old.0 x (subst (λ z. Stands Rule rs z x) is st)).0 n p
             (subst (λ z. RuleFault Ls (take z rs) x n p) is y))
             (order k l),
         λ i x lt st.
@@ -248,13 +245,13 @@ module _ (text : List ℕ) (ls : List FieldLine) (ks : List RuleLine) (raw : Lis
             (old.1 i x less st k from to))
             (λ ge. let is : l ≡ i = omega arith in
             subst (λ z. EntriesNumbered text ls raw (take z rs ++ (x ∷ [])) (rule_params x) nodes' (rule_at ks z).start ((rule_at ks z).body + 1)) is
-            (rule_written rs e zs held up (Ok u) nodes' settled x (subst (λ z. Stands Rule rs z x) (sym is) st)).1)
+            (rule_written rs e zs held up (Ok u) nodes' settled old.0 x (subst (λ z. Stands Rule rs z x) (sym is) st)).1)
             (order i l),
       )
 
 pub rules_all :
     (text : List ℕ) (ls : List FieldLine) (ks : List RuleLine) (raw : List NodeEntry) (l : ℕ) (nodes : List Node) (u : Unit {0})
-    → length ks ≤ l → RulesBelow text ls ks raw l nodes → RulesSettled text ls ks raw nodes (Ok u)
+    → length ks ≤ l → RulesBelow text ls ks raw l nodes → RulesSettledWith text ls ks raw nodes (Ok u)
 rules_all text ls ks raw l nodes u at none rs e zs held up =
     let h = none rs e zs held up in
     let long = rules_long text raw held in (

@@ -1,7 +1,7 @@
 -- The parts that are made of a table without fault keep the rules of a sheet, and are what the sheet comes to.
-use Rattle.std.proofs.Common.{◌≡◌, ℕ, zero, suc, ◌+◌, ◌<◌, ◌≤◌, true, List, [], ◌∷◌, ◌++◌, map, length, get_or, take, Some, None, Ok, sym, refl, ap, ◌∙◌, subst, ⊎_elim, append_assoc, arith}
+use Rattle.std.proofs.Common.{◌≡◌, ℕ, suc, ◌+◌, ◌<◌, ◌≤◌, true, List, [], ◌∷◌, ◌++◌, map, length, take, None, Ok, sym, refl, ap, ◌∙◌, subst, ⊎_elim, append_assoc, append-nil, arith}
 use Rattle.std.proofs.str.Laws.{order}
-use Rattle.std.proofs.lemmas.List.{length-map}
+use Rattle.std.proofs.lemmas.List.{length-map, length-take, length_push}
 use Rattle.formula.specs.Trees as tree
 use Rattle.grammar.specs.declared.table.Table.{Table}
 use Rattle.grammar.specs.Grammar.{any, formula}
@@ -22,23 +22,13 @@ use Rattle.names.specs.Names.{Calls, the_rule, FormulaIs, FieldIs, field_is, Rul
 use Rattle.names.specs.Faults.{weight, uses, zero_weight, wrong_range, rule_formula, mark_formula, Faulty, in_field, in_rule, in_mark, sizes, Named}
 use Rattle.names.specs.Looking.{no_rule_line, IsHead, AllNumbered, LinesSettled, RangesOf, LinesOf, MarkOf, field_at, rule_at, rule_params, rule_body}
 use Rattle.names.proofs.Places.{stands_length, stands_upto, stands_once}
-use Rattle.names.proofs.Lookups.{stands_at}
+use Rattle.names.proofs.Lookups.{stands_at, stands_read}
 use Rattle.names.proofs.Numbering.{stands_map, map_stands}
 use Rattle.names.proofs.Loops.{LineOf, line_of, rules_long, rules_end}
 use Rattle.names.proofs.Parts.{entries_size, size_some}
+use Rattle.names.proofs.Covered.{not_both}
 use Rattle.names.proofs.Trees.{same_size, same_joins, same_nested, tree_at}
 use Rattle.names.proofs.Known.{Weighted, kept_at}
-
--- what stands in a list is read there
-stands_in : {A : Type 0} (xs : List A) {i : ℕ} {x : A} (d : A) → Stands A xs i x → get_or xs i d ≡ x
-stands_in [] d s = elim s [ ]
-stands_in (x ∷ xs) d here = refl
-stands_in (x ∷ xs) d (there s) = stands_in xs d s
-
-length_upto : {A : Type 0} (n : ℕ) (xs : List A) (x : A) → length (take n xs ++ (x ∷ [])) ≤ n + 1
-length_upto zero xs x = omega arith
-length_upto (suc n) [] x = omega arith
-length_upto (suc n) (y ∷ xs) x = let h = length_upto n xs x in omega arith
 
 -- lists that agree item by item
 each_by_place :
@@ -67,15 +57,11 @@ rules_by_place fs above (x ∷ rs) [] e h = absurd (omega arith)
 rules_by_place fs above (rule_line p w ps f ∷ rs) (y ∷ ys) e h =
     let r = rule_line p w ps f in
     let first = h 0 r y here here in
-    let none : above ++ [] ≡ above = nil above in
+    let none : above ++ [] ≡ above = append-nil above in
     let one : FormulaIs fs (above ++ (r ∷ [])) ps f first.0 = subst (λ z. FormulaIs fs (z ++ (r ∷ [])) ps f first.0) none first.2 in
     let rest = rules_by_place fs (above ++ (r ∷ [])) rs ys (omega arith)
     (λ i a b s u. subst (λ z. RuleIs fs z a b) (sym (append_assoc above (r ∷ []) (take i rs))) (h (suc i) a b (there s) (there u))) in
     subst (λ z. RulesAre fs above (r ∷ rs) (z ∷ ys)) (sym first.1) (one_rule one rest)
-  where
-    nil : (zs : List Rule) → zs ++ [] ≡ zs
-    nil [] = refl
-    nil (z ∷ zs) = ap (λ q. z ∷ q) (nil zs)
 
 -- sums that agree item by item
 sizes_by_place :
@@ -176,9 +162,8 @@ module _ (text : List ℕ) (t : Table) (nodes : List Node) (ranges : List Range)
       let up = stands_upto st s in
       let a = stands_length up in
       let b = stands_length s in
-      let c = length_upto i rs x in
       let h = params_at k _ up in
-      (omega (arith, rule_count), omega arith, h.0, h.1)
+      (omega (arith, rule_count), omega (arith, length_push (take i rs) x, length-take i rs), h.0, h.1)
 
   calls_mark :
       (w : Word) (k : ℕ) (qs : List Word) → Calls rs w k qs
@@ -304,7 +289,7 @@ module _ (text : List ℕ) (t : Table) (nodes : List Node) (ranges : List Range)
   lines_fit = lines_are.0 ∙ rule_count
 
   line_is : {i : ℕ} {l : Line} → Stands Line made i l → table.line_at lines i ≡ l
-  line_is st = rule_in_lines made made_mark _ (stands_length st) ∙ stands_in made _ st
+  line_is st = rule_in_lines made made_mark _ (stands_length st) ∙ (stands_read _ st).1
 
   few_in_all : keeping.FewFormulas made made_mark nodes
   few_in_all =
@@ -337,7 +322,7 @@ module _ (text : List ℕ) (t : Table) (nodes : List Node) (ranges : List Range)
   field_at_place i x y u s =
       let m = map_stands range_of ranges s in
       let lt : i < length t.fields.items = let h = stands_length u in omega (arith, field_count) in
-      let is : table.range_at ranges i ≡ m.0 = stands_in ranges _ m.1 in
+      let is : table.range_at ranges i ≡ m.0 = (stands_read _ m.1).1 in
       let r = ranges_are.1 i lt in
       let l = field_at t.fields.items i in
       let value : tree.range l.low.value l.high.value ≡ y =
@@ -408,9 +393,6 @@ module _ (text : List ℕ) (t : Table) (nodes : List Node) (ranges : List Range)
 -- so for whatever sheet the table holds
 module _ (text : List ℕ) (t : Table) (nodes : List Node) (ranges : List Range) (made : List Line) (made_mark : Line)
     (ranges_are : RangesOf t.fields.items ranges) (lines_are : LinesOf t.rules.items made) (mark_is : MarkOf t.mark made_mark) where
-  not_over : {A : Type 0} {q : ℕ} → t.over ≡ None → t.over ≡ Some q → A
-  not_over a b = let z : ◌≡◌ {A = ℕ} 0 1 = cc in absurd (omega arith)
-
   pub made_kept :
       (s : Sheet) (u : Unit {0}) → Holds text t s → WellRead s → LinesSettled text t nodes (Ok u)
       → PartsKept ranges made made_mark nodes
@@ -421,9 +403,9 @@ module _ (text : List ℕ) (t : Table) (nodes : List Node) (ranges : List Range)
           → PartsKept ranges made made_mark nodes
       go _ (whole {fs = fs} {rs = rs} {p = p} {e = e} {f = f} o above first starts d fits) well none h =
           parts_kept text t nodes ranges made made_mark ranges_are lines_are mark_is fs rs p f e above starts d fits well none h.1
-      go _ (over_field o above eight w low high below ea) well none h = not_over h.0 o
-      go _ (over_rule o above over w below ee) well none h = not_over h.0 o
-      go _ (over_mark o above over) well none h = not_over h.0 o
+      go _ (over_field o above eight w low high below ea) well none h = absurd (not_both h.0 o)
+      go _ (over_rule o above over w below ee) well none h = absurd (not_both h.0 o)
+      go _ (over_mark o above over) well none h = absurd (not_both h.0 o)
 
   pub made_named :
       (s : Sheet) (u : Unit {0}) → Holds text t s → WellRead s → LinesSettled text t nodes (Ok u)
@@ -438,6 +420,6 @@ module _ (text : List ℕ) (t : Table) (nodes : List Node) (ranges : List Range)
             resolves = parts_resolve text t nodes ranges made made_mark ranges_are lines_are mark_is fs rs p f e above starts d fits well none h.1;
             faultless = none;
           }
-      go _ (over_field o above eight w low high below ea) well none h = not_over h.0 o
-      go _ (over_rule o above over w below ee) well none h = not_over h.0 o
-      go _ (over_mark o above over) well none h = not_over h.0 o
+      go _ (over_field o above eight w low high below ea) well none h = absurd (not_both h.0 o)
+      go _ (over_rule o above over w below ee) well none h = absurd (not_both h.0 o)
+      go _ (over_mark o above over) well none h = absurd (not_both h.0 o)

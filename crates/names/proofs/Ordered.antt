@@ -1,5 +1,6 @@
 -- Faults of uses that stand in the order of the text: the first in the list comes first.
-use Rattle.std.proofs.Common.{◌≡◌, ℕ, ◌<◌, ◌⊎◌, List, [], ◌∷◌, ◌++◌, map, refl, ap, subst, inl, inr, ⊎_elim, arith}
+use Rattle.std.proofs.Common.{◌≡◌, ℕ, ◌<◌, ◌⊎◌, List, [], ◌∷◌, ◌++◌, map, refl, subst, inl, inr, ⊎_elim, arith}
+use Rattle.std.proofs.lemmas.List.{map-append}
 use Rattle.grammar.specs.Syntax.{Word, num, Field, Rule}
 use Rattle.grammar.specs.Tables.{BeforeAll, Rising}
 use Rattle.names.specs.Lists.{In, this, that}
@@ -31,10 +32,6 @@ rising_across [] r m k = elim m [ ]
 rising_across (x ∷ xs) {ys} r this k = before_in (xs ++ ys) r.0 (in_right xs k)
 rising_across (x ∷ xs) r (that m) k = rising_across xs r.1 m k
 
-pub map_append : {A B : Type 0} (g : A → B) (xs ys : List A) → map g (xs ++ ys) ≡ map g xs ++ map g ys
-map_append g [] ys = refl
-map_append g (x ∷ xs) ys = ap (λ z. g x ∷ z) (map_append g xs ys)
-
 pub in_map_use : {us : List Use} {u : Use} → In Use us u → In ℕ (map use_place us) (use_place u)
 in_map_use this = this
 in_map_use (that m) = that (in_map_use m)
@@ -59,7 +56,7 @@ module _ {fs : List Field} {rs : List Rule} {ps : List Word} where
       → Rising (map use_place (us ++ vs)) → UsesFault fs rs ps us n p → UsesFault fs rs ps vs m q → p < q
   fault_across us {vs} {n} {p} {m} {q} r x y =
       let less : use_place x.0 < use_place y.0 =
-      rising_across (map use_place us) (subst Rising (map_append use_place us vs) r) (in_map_use x.1) (in_map_use y.1) in
+      rising_across (map use_place us) (subst Rising (map-append use_place us vs) r) (in_map_use x.1) (in_map_use y.1) in
       omega (arith, less, fault_place x.0 x.2, fault_place y.0 y.2)
 
   pub first_left :
@@ -88,7 +85,7 @@ module _ {fs : List Field} {rs : List Rule} {ps : List Word} where
 
 -- where places of two lists of uses rise, so do those of each
 pub uses_left : (us vs : List Use) → Rising (map use_place (us ++ vs)) → Rising (map use_place us)
-uses_left us vs r = rising_left (map use_place us) (map use_place vs) (subst Rising (map_append use_place us vs) r)
+uses_left us vs r = rising_left (map use_place us) (map use_place vs) (subst Rising (map-append use_place us vs) r)
 
 pub uses_right : (us vs : List Use) → Rising (map use_place (us ++ vs)) → Rising (map use_place vs)
-uses_right us vs r = rising_right (map use_place us) (map use_place vs) (subst Rising (map_append use_place us vs) r)
+uses_right us vs r = rising_right (map use_place us) (map use_place vs) (subst Rising (map-append use_place us vs) r)

@@ -1,5 +1,6 @@
 -- The entries of a line's formula, and what the formula uses.
 use Rattle.std.proofs.Common.{◌≡◌, ℕ, suc, ◌+◌, ◌<◌, ◌≤◌, cond, leb, List, [], ◌∷◌, ◌++◌, map, sym, refl, ap, ◌∙◌, subst, ⊎_elim, arith}
+use Rattle.std.proofs.lemmas.List.{map-append}
 use Rattle.std.proofs.lemmas.Bool.Decides.{leb_tells}
 use Rattle.grammar.specs.declared.table.Node.{Node as NodeEntry}
 use Rattle.grammar.specs.Syntax.{Word, num, Term, constant, bare, raised, lowered, Weights, absent, given, Formula, compared, called, negated, picked, joined, Field, Rule}
@@ -8,7 +9,7 @@ use Rattle.names.specs.Lists.{In, that}
 use Rattle.names.specs.Faults.{Use, term, term_uses, terms_uses, weight_uses, uses, FormulaFault}
 use Rattle.names.specs.Looking.{own_uses, use_place, IsEntry, an_entry_compared, an_entry_called, an_entry_negated, an_entry_picked, an_entry_joined, AreEntries, EntriesFault}
 use Rattle.names.proofs.Places.{in_left, in_right, split_in}
-use Rattle.names.proofs.Ordered.{map_append, uses_left, uses_right}
+use Rattle.names.proofs.Ordered.{uses_left, uses_right}
 
 -- a choice by a test of order
 by_order : {A : Type 0} (P : A → Type 0) (k a : ℕ) (x y : A) → (k ≤ a → P x) → (a < k → P y) → P (cond (leb k a) x y)
@@ -188,7 +189,7 @@ term_is_places (lowered w n) = refl
 terms_are_places : (ts : List Term) → map use_place (terms_uses ts) ≡ terms_places ts
 terms_are_places [] = refl
 terms_are_places (t ∷ ts) =
-    map_append use_place (term_uses t) (terms_uses ts)
+    map-append use_place (term_uses t) (terms_uses ts)
     ∙ ap (λ z. z ++ map use_place (terms_uses ts)) (term_is_places t) ∙ ap (λ z. term_places t ++ z) (terms_are_places ts)
 
 weights_are_places : (w : Weights) → map use_place (weight_uses w) ≡ weights_places w
@@ -197,14 +198,14 @@ weights_are_places (given (num v p) (num w q)) = refl
 
 pub uses_are_places : (f : Formula) → map use_place (uses f) ≡ formula_places f
 uses_are_places (compared c t u) =
-    map_append use_place (term_uses t) (term_uses u)
+    map-append use_place (term_uses t) (term_uses u)
     ∙ ap (λ z. z ++ map use_place (term_uses u)) (term_is_places t) ∙ ap (λ z. term_places t ++ z) (term_is_places u)
 uses_are_places (called w ts) = ap (λ z. place_of w ∷ z) (terms_are_places ts)
 uses_are_places (negated f) = uses_are_places f
 uses_are_places (picked w f) = ap (λ z. place_of w ∷ z) (uses_are_places f)
 uses_are_places (joined j w f g) =
-    map_append use_place (uses f) (weight_uses w ++ uses g)
+    map-append use_place (uses f) (weight_uses w ++ uses g)
     ∙ ap (λ z. z ++ map use_place (weight_uses w ++ uses g)) (uses_are_places f)
     ∙ ap (λ z. formula_places f ++ z)
-    (map_append use_place (weight_uses w) (uses g)
+    (map-append use_place (weight_uses w) (uses g)
     ∙ ap (λ z. z ++ map use_place (uses g)) (weights_are_places w) ∙ ap (λ z. weights_places w ++ z) (uses_are_places g))

@@ -25,8 +25,8 @@ same_number a b = ⊎_elim (λ h. inr (λ e. omega arith)) (λ h. ⊎_elim (λ k
 
 pub same_word : (v w : List ℕ) → Dec (v ≡ w)
 same_word [] [] = inl refl
-same_word [] (b ∷ w) = inr (λ e. let z : ◌≡◌ {A = ℕ} 0 1 = cc in omega arith)
-same_word (a ∷ v) [] = inr (λ e. let z : ◌≡◌ {A = ℕ} 0 1 = cc in omega arith)
+same_word [] (b ∷ w) = inr (λ e. cc)
+same_word (a ∷ v) [] = inr (λ e. cc)
 same_word (a ∷ v) (b ∷ w) =
     ⊎_elim
     (λ e. ⊎_elim (λ f. inl (cc)) (λ f. inr (λ g. let z : v ≡ w = cc in f z)) (same_word v w))

@@ -1,5 +1,5 @@
 -- How many fields, rules and formulas the sheet has that a table comes to.
-use Rattle.std.proofs.Common.{◌≡◌, ℕ, suc, ◌+◌, List, [], ◌∷◌, ◌++◌, length, sym, refl, ap, ◌∙◌, subst, ⊎_elim, arith}
+use Rattle.std.proofs.Common.{◌≡◌, ℕ, suc, ◌+◌, List, [], ◌∷◌, ◌++◌, length, sym, refl, ap, subst, ⊎_elim, arith}
 use Rattle.std.proofs.lemmas.List.{take_at, length-map}
 use Rattle.formula.specs.Trees as tree
 use Rattle.grammar.specs.declared.table.Table.{Table}
@@ -14,6 +14,7 @@ use Rattle.names.specs.Names as names
 use Rattle.names.specs.Faults.{sizes, FieldFault, many_fields, RuleFault, many_rules, rule_passes, mark_passes, Faulty, in_field, in_rule, in_mark}
 use Rattle.names.specs.Reading.{Counted}
 use Rattle.names.specs.Layers.{HasContents}
+use Rattle.names.proofs.Covered.{size_above}
 use Rattle.names.proofs.Places.{stands_after}
 use Rattle.names.proofs.Parts.{entries_size}
 use Rattle.names.proofs.Loops.{rules_end, rules_long}
@@ -77,16 +78,10 @@ counted text t _ v c f r m (over_field {fs = fs} {rs = rs} {m = k} {p = p} o abo
 counted text t _ v c f r m (over_rule {fs = fs} {rs = rs} {p = p} {e = n} {ps = ps} {f = g} {m = k} o above why w below e) res none =
     let fault : RuleFault fs rs (rule_line p w ps g) 11 p = ⊎_elim
     (λ h. many_rules h)
-    (λ h. rule_passes (subst (λ i. Over i ps g) (rules_end text t.nodes.items above.rules_held ∙ zero_more (sizes rs)) h)) why in
+    (λ h. rule_passes (subst (λ i. Over i ps g) (size_above text t above) h)) why in
     absurd (none 11 p (subst (λ l. Faulty (sheet fs l k) 11 p) (sym e) (rule_over fs rs (rule_line p w ps g) below k 11 p fault)))
-  where
-    zero_more : (n : ℕ) → 0 + n ≡ n
-    zero_more n = omega arith
 counted text t _ v c f r m (over_mark {fs = fs} {rs = rs} {p = p} {e = n} {f = g} o above over) res none =
-    absurd (none 11 p (in_mark (mark_passes (subst (λ i. Over i [] g) (rules_end text t.nodes.items above.rules_held ∙ zero_more (sizes rs)) over))))
-  where
-    zero_more : (n : ℕ) → 0 + n ≡ n
-    zero_more n = omega arith
+    absurd (none 11 p (in_mark (mark_passes (subst (λ i. Over i [] g) (size_above text t above) over))))
 
 pub has_contents : (text : List ℕ) (t : Table) (c : Contents)
     → c.fields ≡ length t.fields.items → c.rules ≡ length t.rules.items → c.formulas ≡ t.mark.body + 1

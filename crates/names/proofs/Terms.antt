@@ -1,13 +1,14 @@
 -- The terms of a call, one after the other.
 use Rattle.std.proofs.Common.{◌≡◌, ℕ, zero, suc, ◌<◌, List, [], ◌∷◌, ◌++◌, map, length, get_or, take, sym, refl, ap, ◌∙◌, subst, append_assoc, arith}
-use Rattle.grammar.specs.declared.table.Term.{Term as TermEntry}
+use Rattle.std.proofs.lemmas.List.{map-append}
+use Rattle.grammar.specs.Tables.{TermEntry}
 use Rattle.grammar.specs.Syntax.{Word, Term, Field, Rule}
 use Rattle.grammar.specs.Tables.{term_of, Rising}
 use Rattle.names.specs.Lists.{Each, end, item}
 use Rattle.names.specs.Faults.{term_uses, terms_uses, First}
 use Rattle.names.specs.Looking.{UsesFault, use_place}
 use Rattle.names.proofs.Numbering.{no_uses}
-use Rattle.names.proofs.Ordered.{map_append, first_left, first_right, none_both, uses_right}
+use Rattle.names.proofs.Ordered.{first_left, first_right, none_both, uses_right}
 
 -- a list: the items before i, the item i, and others
 pub take_split :
@@ -29,8 +30,8 @@ pub each_more :
     → all ≡ front ++ (a ∷ []) → all' ≡ front' ++ (b ∷ [])
     → Each X Y R (map g front) (map h front') → R (g a) (h b) → Each X Y R (map g all) (map h all')
 each_more {X = X} {Y = Y} R g h front all a front' all' b e e' each r =
-    let left : map g all ≡ map g front ++ (g a ∷ []) = ap (map g) e ∙ map_append g front (a ∷ []) in
-    let right : map h all' ≡ map h front' ++ (h b ∷ []) = ap (map h) e' ∙ map_append h front' (b ∷ []) in
+    let left : map g all ≡ map g front ++ (g a ∷ []) = ap (map g) e ∙ map-append g front (a ∷ []) in
+    let right : map h all' ≡ map h front' ++ (h b ∷ []) = ap (map h) e' ∙ map-append h front' (b ∷ []) in
     subst (λ xs. Each X Y R xs (map h all')) (sym left)
     (subst (λ ys. Each X Y R (map g front ++ (g a ∷ [])) ys) (sym right) (each_push each r))
 
@@ -44,7 +45,7 @@ module _ (text : List ℕ) where
       → terms_uses (map (term_of text) (front ++ (x ∷ rest)))
       ≡ terms_uses (map (term_of text) front) ++ (term_uses (term_of text x) ++ terms_uses (map (term_of text) rest))
   split_uses front rest x =
-      ap terms_uses (map_append (term_of text) front (x ∷ rest)) ∙ uses_append (map (term_of text) front) (map (term_of text) (x ∷ rest))
+      ap terms_uses (map-append (term_of text) front (x ∷ rest)) ∙ uses_append (map (term_of text) front) (map (term_of text) (x ∷ rest))
 
   module _ {fs : List Field} {rs : List Rule} {ps : List Word} where
     pub terms_more :

@@ -5,8 +5,9 @@ use Rattle.formula.specs.declared.Comparison.{Comparison}
 use Rattle.formula.specs.declared.Join.{Join}
 use Rattle.formula.specs.declared.Join.TheVariants.{And, Or}
 use Rattle.formula.specs.Trees as tree
+use Rattle.grammar.specs.declared.few.Few.{Few}
 use Rattle.grammar.specs.declared.table.Word.{Word as WordEntry}
-use Rattle.grammar.specs.declared.table.Term.{Term as TermEntry}
+use Rattle.grammar.specs.Tables.{TermEntry}
 use Rattle.grammar.specs.declared.table.Weights.{Weights as WeightsEntry}
 use Rattle.grammar.specs.declared.table.Node.{Node as NodeEntry}
 use Rattle.grammar.specs.declared.table.Node.TheVariants.{Compared, Called, Negated, Picked, Joined}
@@ -78,14 +79,14 @@ module _ (text : List ℕ) (raw : List NodeEntry) (nodes : List Node) (fs : List
   )
 
   of_called :
-      {i n : ℕ} {v : WordEntry} {ts : List TermEntry} (m : Node) → table.node_at nodes i ≡ m → Numbered text fs rs ps (Called v n ts) m
-      → (w : Word) (xs : List Term) → word_of text v ≡ w → n ≡ length xs → map (term_of text) (take n ts) ≡ take 4 xs → Is (called w xs) i
-  of_called {n = n} {v = v} _ e (numbered_called {k = k} {xs = ys} {qs = qs} c len each four) w xs p q r =
+      {i : ℕ} {v : WordEntry} {ts : Few TermEntry} (m : Node) → table.node_at nodes i ≡ m → Numbered text fs rs ps (Called v ts) m
+      → (w : Word) (xs : List Term) → word_of text v ≡ w → ts.count ≡ length xs → map (term_of text) (take ts.count ts.items) ≡ take 4 xs → Is (called w xs) i
+  of_called {v = v} {ts = ts} _ e (numbered_called {k = k} {xs = ys} {qs = qs} c len each four) w xs p q r =
       let small = few (word_of text v) k qs c in
       let all = r ∙ take_all 4 xs (omega arith) in (
         _,
         table.a_call e refl,
-        called_is (subst (λ z. Calls rs z k qs) p c) (subst (λ z. Each Term tree.Term (TermIs fs ps) z (map table.term_of (take n ys))) all each),
+        called_is (subst (λ z. Calls rs z k qs) p c) (subst (λ z. Each Term tree.Term (TermIs fs ps) z (map table.term_of (take ts.count ys))) all each),
       )
 
   of_negated :

@@ -12,17 +12,16 @@ use Rattle.grammar.specs.Tables.{word_of, params_of, place_of, formula_places, O
 use Rattle.sheet.specs.declared.node.Node.{Node}
 use Rattle.names.specs.Lists.{In, this, that}
 use Rattle.names.specs.Faults.{FormulaFault, RuleFault, rule_taken, param_taken, rule_formula, many_rules, rule_passes, MarkFault, mark_formula, mark_passes, sizes, First}
-use Rattle.names.specs.Looking.{names_of, fields_in, Heads, NamesFault, NamesSettled, EntriesSettled, EntriesNumbered, RuleSettled, MarkSettled, RulesSettled, Settles, Best, no_rule_line, rule_at}
+use Rattle.names.specs.Looking.{names_of, fields_in, Heads, NamesFault, NamesSettledWith, EntriesSettledWith, EntriesNumbered, RuleSettled, MarkSettled, Settles, Best, no_rule_line, rule_at}
 use Rattle.names.proofs.Search.{stands_in}
+use Rattle.names.proofs.Faults.{move}
 use Rattle.names.proofs.Places.{in_map}
+use Rattle.names.proofs.Once.{once_more}
 use Rattle.names.proofs.Ordered.{rising_left, rising_right, rising_across}
 use Rattle.names.proofs.Terms.{each_push}
 use Rattle.names.proofs.Runs.{settles_like}
 use Rattle.names.proofs.Parts.{part_at, are_parts, to_formula, of_formula, uses_are_places}
 use Rattle.names.proofs.InOrder.{formula_fault_in}
-
-move : (F : ℕ → ℕ → Type 0) {m q n p : ℕ} → n ≡ m → p ≡ q → F m q → F n p
-move F {m} {q} {n} {p} e f x = subst (λ k. F k p) (sym e) (subst (λ k. F m k) (sym f) x)
 
 module _ (fs : List Field) (above : List Rule) (p : ℕ) (w : Word) (ps : List Word) (f : Formula) where
   abbrev R : Rule
@@ -76,7 +75,7 @@ module _ (text : List ℕ) (ls : List FieldLine) (ks : List RuleLine) (raw : Lis
 
   -- what is settled of the names that are read, as they are written
   names_written :
-      (r : Result (Unit {0}) Fault) → NamesSettled text ls (take l ks) Line.name Line.params.items r
+      (r : Result (Unit {0}) Fault) → NamesSettledWith text ls (take l ks) Line.name Line.params.items r
       → (above : List Rule) (w : Word) (ps : List Word) → Heads text (take l ks) above
       → word_of text Line.name ≡ w → params_of text Line ≡ ps → Rising (place_of w ∷ map place_of ps)
       → Best (NamesFault Fs above w ps) r
@@ -87,43 +86,48 @@ module _ (text : List ℕ) (ls : List FieldLine) (ks : List RuleLine) (raw : Lis
       (subst (λ z. Rising (place_of z ∷ map place_of (names_of text Line.params.items))) (sym ew)
       (subst (λ z. Rising (place_of w ∷ map place_of z)) (sym ep) up))))
 
-  pub rule_refused :
-      (f : Fault) → NamesSettled text ls (take l ks) Line.name Line.params.items (Err f) → RuleSettled text ls ks raw l nodes (Err f)
-  rule_refused f names above (rule_line p w ps g) hs is up =
-      let h = is.head in
-      names_first Fs above p w ps g is.few_rules is.within up
-      (names_written (Err f) names above w ps hs h.1 h.2 (rising_left (place_of w ∷ map place_of ps) (formula_places g) up.1))
+  -- the line that is read is that of number l
+  module _ (line : RuleLine) (read : line ≡ Line) where
+    pub rule_refused :
+        (f : Fault) → NamesSettledWith text ls (take l ks) line.name line.params.items (Err f) → RuleSettled text ls ks raw l nodes (Err f)
+    rule_refused f names above (rule_line p w ps g) hs once is up =
+        let h = is.head in
+        let names' = subst (λ z. NamesSettledWith text ls (take l ks) z.name z.params.items (Err f)) read names in
+        names_first Fs above p w ps g is.few_rules is.within up
+        (names_written (Err f) names' above w ps hs h.1 h.2 (rising_left (place_of w ∷ map place_of ps) (formula_places g) up.1))
 
-  pub rule_settled :
-      (u : Unit {0}) (r : Result (Unit {0}) Fault) → l < length ks
-      → NamesSettled text ls (take l ks) Line.name Line.params.items (Ok u)
-      → EntriesSettled text ls (take (l + 1) ks) Line.params.items raw Line.start (Line.body + 1) nodes r
-      → RuleSettled text ls ks raw l nodes r
-  rule_settled u r len names entries above (rule_line p w ps g) hs is up =
-      let h = is.head in
-      let none = names_written (Ok u) names above w ps hs h.1 h.2 (rising_left (place_of w ∷ map place_of ps) (formula_places g) up.1) in
-      let rs = above ++ (rule_line p w ps g ∷ []) in
-      let heads : Heads text (take (l + 1) ks) rs =
-      subst (λ z. Heads text z rs) (sym (take_more ks l no_rule_line len)) (each_push hs h) in
-      let rising = subst Rising (sym (uses_are_places g)) (rising_right (place_of w ∷ map place_of ps) (formula_places g) up.1) in
-      let d = is.entries in
-      let settled = entries rs (part_at text raw d) heads (are_parts text raw d rising) in
-      let Ps : List Word = names_of text Line.params.items in
-      formula_settled Fs above p w ps g is.few_rules is.within r none (λ x. x)
-      (subst (λ z. Settles (FormulaFault Fs rs z g) (λ _. EntriesNumbered text ls raw rs z nodes Line.start (Line.body + 1)) r) h.2
-      (settles_like r (to_formula text raw d Fs rs Ps) (of_formula text raw d Fs rs Ps) (λ x. x) settled))
+    pub rule_settled :
+        (u : Unit {0}) (r : Result (Unit {0}) Fault) → l < length ks
+        → NamesSettledWith text ls (take l ks) line.name line.params.items (Ok u)
+        → EntriesSettledWith text ls (take (l + 1) ks) line.params.items raw line.start (line.body + 1) nodes r
+        → RuleSettled text ls ks raw l nodes r
+    rule_settled u r len names entries above (rule_line p w ps g) hs once is up =
+        let h = is.head in
+        let names' = subst (λ z. NamesSettledWith text ls (take l ks) z.name z.params.items (Ok u)) read names in
+        let none = names_written (Ok u) names' above w ps hs h.1 h.2 (rising_left (place_of w ∷ map place_of ps) (formula_places g) up.1) in
+        let rs = above ++ (rule_line p w ps g ∷ []) in
+        let heads : Heads text (take (l + 1) ks) rs =
+        subst (λ z. Heads text z rs) (sym (take_more ks l no_rule_line len)) (each_push hs h) in
+        let rising = subst Rising (sym (uses_are_places g)) (rising_right (place_of w ∷ map place_of ps) (formula_places g) up.1) in
+        let d = is.entries in
+        let entries' = subst (λ z. EntriesSettledWith text ls (take (l + 1) ks) z.params.items raw z.start (z.body + 1) nodes r) read entries in
+        let settled = entries' rs (part_at text raw d) heads (once_more Fs above p w ps g once (λ h. none 7 _ (inl (h, refl, refl)))) (are_parts text raw d rising) in
+        let Ps : List Word = names_of text Line.params.items in
+        formula_settled Fs above p w ps g is.few_rules is.within r none (λ x. x)
+        (subst (λ z. Settles (FormulaFault Fs rs z g) (λ _. EntriesNumbered text ls raw rs z nodes Line.start (Line.body + 1)) r) h.2
+        (settles_like r (to_formula text raw d Fs rs Ps) (of_formula text raw d Fs rs Ps) (λ x. x) settled))
 
 pub mark_settled :
     (text : List ℕ) (ls : List FieldLine) (ks : List RuleLine) (raw : List NodeEntry) (mark : MarkLine) (nodes : List Node)
     (r : Result (Unit {0}) Fault)
-    → EntriesSettled text ls ks [] raw mark.start (mark.body + 1) nodes r → MarkSettled text ls ks raw mark nodes r
-mark_settled text ls ks raw mark nodes r entries rs p f hs d within up =
+    → EntriesSettledWith text ls ks [] raw mark.start (mark.body + 1) nodes r → MarkSettled text ls ks raw mark nodes r
+mark_settled text ls ks raw mark nodes r entries rs p f hs once d within up =
     let Ms = fields_in text ls in
     let rising = subst Rising (sym (uses_are_places f)) up in
     settles_like r
     (λ n q x. mark_formula (to_formula text raw d Ms rs [] n q x))
     (λ n q x. of_formula text raw d Ms rs [] n q (from n q x)) (λ x. x)
-    (entries rs (part_at text raw d) hs (are_parts text raw d rising))
+    (entries rs (part_at text raw d) hs once (are_parts text raw d rising))
   where
     from : (n q : ℕ) → MarkFault (fields_in text ls) rs (mark_line p f) n q → FormulaFault (fields_in text ls) rs [] f n q
     from n q (mark_formula h) = h
@@ -133,28 +137,8 @@ mark_settled text ls ks raw mark nodes r entries rs p f hs d within up =
 pub names_like :
     {text text' : List ℕ} {ls ls' : List FieldLine} {ks ks' : List RuleLine} {ws ws' : List WordEntry}
     (own : WordEntry) (r : Result (Unit {0}) Fault)
-    → text ≡ text' → ls ≡ ls' → ks ≡ ks' → ws ≡ ws' → NamesSettled text ls ks own ws r → NamesSettled text' ls' ks' own ws' r
+    → text ≡ text' → ls ≡ ls' → ks ≡ ks' → ws ≡ ws' → NamesSettledWith text ls ks own ws r → NamesSettledWith text' ls' ks' own ws' r
 names_like {text} {text'} {ls} {ls'} {ks} {ks'} {ws} {ws'} own r a b c d h =
-    subst (λ z. NamesSettled z ls' ks' own ws' r) a
-    (subst (λ z. NamesSettled text z ks' own ws' r) b
-    (subst (λ z. NamesSettled text ls z own ws' r) c (subst (λ z. NamesSettled text ls ks own z r) d h)))
-
-pub entries_like :
-    {text text' : List ℕ} {ls ls' : List FieldLine} {ks ks' : List RuleLine} {ws ws' : List WordEntry} {raw raw' : List NodeEntry}
-    (start end : ℕ) (nodes : List Node) (r : Result (Unit {0}) Fault)
-    → text ≡ text' → ls ≡ ls' → ks ≡ ks' → ws ≡ ws' → raw ≡ raw'
-    → EntriesSettled text ls ks ws raw start end nodes r → EntriesSettled text' ls' ks' ws' raw' start end nodes r
-entries_like {text} {text'} {ls} {ls'} {ks} {ks'} {ws} {ws'} {raw} {raw'} start end nodes r a b c d e h =
-    subst (λ z. EntriesSettled z ls' ks' ws' raw' start end nodes r) a
-    (subst (λ z. EntriesSettled text z ks' ws' raw' start end nodes r) b
-    (subst (λ z. EntriesSettled text ls z ws' raw' start end nodes r) c
-    (subst (λ z. EntriesSettled text ls ks z raw' start end nodes r) d
-    (subst (λ z. EntriesSettled text ls ks ws z start end nodes r) e h))))
-
-pub rules_like :
-    {text : List ℕ} {ls ls' : List FieldLine} {ks ks' : List RuleLine} {raw raw' : List NodeEntry}
-    (nodes : List Node) (r : Result (Unit {0}) Fault)
-    → ls ≡ ls' → ks ≡ ks' → raw ≡ raw' → RulesSettled text ls ks raw nodes r → RulesSettled text ls' ks' raw' nodes r
-rules_like {text} {ls} {ls'} {ks} {ks'} {raw} {raw'} nodes r a b c h =
-    subst (λ z. RulesSettled text z ks' raw' nodes r) a
-    (subst (λ z. RulesSettled text ls z raw' nodes r) b (subst (λ z. RulesSettled text ls ks z nodes r) c h))
+    subst (λ z. NamesSettledWith z ls' ks' own ws' r) a
+    (subst (λ z. NamesSettledWith text z ks' own ws' r) b
+    (subst (λ z. NamesSettledWith text ls z own ws' r) c (subst (λ z. NamesSettledWith text ls ks own z r) d h)))

@@ -5,8 +5,9 @@ use Rattle.formula.specs.declared.Join.{Join}
 use Rattle.formula.specs.Trees as tree
 use Rattle.refusal.specs.declared.Fault.{Fault}
 use Rattle.refusal.specs.Table.{number}
+use Rattle.grammar.specs.declared.few.Few.{Few}
 use Rattle.grammar.specs.declared.table.Word.{Word as WordEntry}
-use Rattle.grammar.specs.declared.table.Term.{Term as TermEntry}
+use Rattle.grammar.specs.Tables.{TermEntry}
 use Rattle.grammar.specs.declared.table.Weights.{Weights as WeightsEntry}
 use Rattle.grammar.specs.declared.table.Node.{Node as NodeEntry}
 use Rattle.grammar.specs.declared.table.Node.TheVariants.{Compared, Called, Negated, Picked, Joined}
@@ -16,14 +17,15 @@ use Rattle.grammar.specs.declared.table.Table.{Table}
 use Rattle.grammar.specs.Syntax.{Word, num, Term, Weights, Formula, compared, called, negated, picked, joined, Field, Rule, rule_line, mark_line, Sheet, sheet}
 use Rattle.grammar.specs.Tables.{word_of, term_of, node_at, weights_of, field_of, params_of, place_of, formula_places, fields_places, rules_places, rules_of, Entries, Rules, Holds, WellRead, Over, Rising}
 use Rattle.sheet.specs.declared.node.Name.{Name}
-use Rattle.sheet.specs.declared.node.Term.{Term as SheetTerm}
-use Rattle.sheet.specs.declared.node.Term.TheVariants.{Number as SheetNumber}
+use Rattle.sheet.specs.Table.{SheetTerm}
+use Rattle.formula.specs.declared.term.Term.TheVariants.{Number as SheetNumber}
 use Rattle.sheet.specs.declared.node.Node.{Node}
 use Rattle.sheet.specs.declared.node.Node.TheVariants.{Compare, Call, Not, Pick, Join as JoinNode}
 use Rattle.sheet.specs.declared.node.Range.{Range}
 use Rattle.sheet.specs.declared.node.Line.{Line}
 use Rattle.grammar.specs.declared.table.MarkLine.{MarkLine}
 use Rattle.sheet.specs.Table.{range_at, line_at, name_of as number_name, term_of as number_term, node_at as number_node}
+use Rattle.names.specs.declared.scope.Scope.{Scope}
 use Rattle.names.specs.Lists.{Stands, In, Each}
 use Rattle.names.specs.Names.{spelling, Means, Calls, TermIs, left_weight, right_weight}
 use Rattle.names.specs.Faults.{Use, term, call, weight, term_uses, terms_uses, weight_uses, UseFault, field_name, rule_name, all_names, Taken, sizes, FieldFault, RuleFault, MarkFault, Faulty, First}
@@ -77,6 +79,10 @@ own_uses (negated f) = []
 own_uses (picked w f) = term w ∷ []
 own_uses (joined j w f g) = weight_uses w
 
+-- a name calls one rule at most
+abbrev pub CallsOnce : List Rule → Type 0
+CallsOnce rs = (w : Word) (i j : ℕ) (ps qs : List Word) → Calls rs w i ps → Calls rs w j qs → i ≡ j
+
 -- a fault of one of some uses
 abbrev pub UsesFault : List Field → List Rule → List Word → List Use → (number place : ℕ) → Type 0
 UsesFault fs rs ps us n p = (u : Use) × In Use us u × UseFault fs rs ps u n p
@@ -95,11 +101,11 @@ pub data IsEntry (text : List ℕ) : NodeEntry → Formula → Type 0 where
       → term_of text u ≡ y
       → IsEntry text (Compared c t u) (compared c x y)
   an_entry_called :
-      {n : ℕ} {v : WordEntry} {w : Word} {ts : List TermEntry} {xs : List Term}
+      {v : WordEntry} {w : Word} {ts : Few TermEntry} {xs : List Term}
       → word_of text v ≡ w
-      → n ≡ length xs
-      → map (term_of text) (take n ts) ≡ take 4 xs
-      → IsEntry text (Called v n ts) (called w xs)
+      → ts.count ≡ length xs
+      → map (term_of text) (take ts.count ts.items) ≡ take 4 xs
+      → IsEntry text (Called v ts) (called w xs)
   an_entry_negated : {a : ℕ} {f : Formula} → IsEntry text (Negated a) (negated f)
   an_entry_picked :
       {v : WordEntry} {w : Word} {a : ℕ} {f : Formula}
@@ -122,12 +128,13 @@ pub data Numbered (text : List ℕ) (fs : List Field) (rs : List Rule) (ps : Lis
       → TermIs fs ps (term_of text u) (number_term y)
       → Numbered text fs rs ps (Compared c t u) (Compare x c y)
   numbered_called :
-      {n k : ℕ} {v : WordEntry} {ts : List TermEntry} {xs : List SheetTerm} {qs : List Word}
+      {k : ℕ} {v : WordEntry} {ts : Few TermEntry} {xs : List SheetTerm} {qs : List Word}
       → Calls rs (word_of text v) k qs
-      → length qs ≡ n
-      → Each Term tree.Term (TermIs fs ps) (map (term_of text) (take n ts)) (map number_term (take n xs))
-      → Padded n xs
-      → Numbered text fs rs ps (Called v n ts) (Call k n xs)
+      → length qs ≡ ts.count
+      → Each Term tree.Term (TermIs fs ps) (map (term_of text) (take ts.count ts.items))
+      (map number_term (take ts.count xs))
+      → Padded ts.count xs
+      → Numbered text fs rs ps (Called v ts) (Call k ts.count xs)
   numbered_negated : {a : ℕ} → Numbered text fs rs ps (Negated a) (Not a)
   numbered_picked :
       {v : WordEntry} {b : Name} {a : ℕ}
@@ -151,36 +158,44 @@ Best F (Err f) = First F (number f.refusal) f.place
 
 -- What is settled of a name, a call, a term and an entry: the first fault, or what it comes to
 
--- a name in a line with the fields of the lines ls and the parameters ws
-abbrev pub NameSettled : List ℕ → List FieldLine → List WordEntry → WordEntry → Result Name Fault → Type 0
-NameSettled text ls ws w r =
-    (rs : List Rule)
-    → Settles (UseFault (fields_in text ls) rs (names_of text ws) (term (word_of text w)))
-    (λ x. Means (fields_in text ls) (names_of text ws) (word_of text w) (number_name x)) r
+-- the fields of the scope
+abbrev pub fields_seen : Scope → List Field
+fields_seen s = fields_in s.text.now s.fields.now
 
--- a call of the name w with n terms, where the rule lines ls may be called
-abbrev pub CallSettled : List ℕ → List RuleLine → WordEntry → (n : ℕ) → Result ℕ Fault → Type 0
-CallSettled text ls w n r =
+-- the parameters of the scope
+abbrev pub params_seen : Scope → List Word
+params_seen s = names_of s.text.now s.params.now
+
+-- a name in the scope
+abbrev pub NameSettled : Scope → WordEntry → Result Name Fault → Type 0
+NameSettled s w r =
+    (rs : List Rule)
+    → Settles (UseFault (fields_seen s) rs (params_seen s) (term (word_of s.text.now w)))
+    (λ x. Means (fields_seen s) (params_seen s) (word_of s.text.now w) (number_name x)) r
+
+-- a call of the name w with n terms in the scope
+abbrev pub CallSettled : Scope → WordEntry → (n : ℕ) → Result ℕ Fault → Type 0
+CallSettled s w n r =
     (fs : List Field) (rs : List Rule) (ps : List Word)
-    → Heads text ls rs
-    → Settles (UseFault fs rs ps (call (word_of text w) n))
-    (λ k. (qs : List Word) × Calls rs (word_of text w) k qs × (length qs ≡ n) × (n ≤ 4)) r
+    → Heads s.text.now s.rules.now rs
+    → CallsOnce rs
+    → Settles (UseFault fs rs ps (call (word_of s.text.now w) n))
+    (λ k. (qs : List Word) × Calls rs (word_of s.text.now w) k qs × (length qs ≡ n) × (n ≤ 4)) r
 
--- a term in a line with the fields of the lines ls and the parameters ws
-abbrev pub TermSettled : List ℕ → List FieldLine → List WordEntry → TermEntry → Result SheetTerm Fault → Type 0
-TermSettled text ls ws x r =
+-- a term in the scope
+abbrev pub TermSettled : Scope → TermEntry → Result SheetTerm Fault → Type 0
+TermSettled s x r =
     (rs : List Rule)
-    → Settles (UsesFault (fields_in text ls) rs (names_of text ws) (term_uses (term_of text x)))
-    (λ y. TermIs (fields_in text ls) (names_of text ws) (term_of text x) (number_term y)) r
+    → Settles (UsesFault (fields_seen s) rs (params_seen s) (term_uses (term_of s.text.now x)))
+    (λ y. TermIs (fields_seen s) (params_seen s) (term_of s.text.now x) (number_term y)) r
 
--- at most four terms xs, in a line with the fields of the lines ls and the parameters ws
-abbrev pub TermsSettled :
-    List ℕ → List FieldLine → List WordEntry → List TermEntry → Result (List SheetTerm) Fault → Type 0
-TermsSettled text ls ws xs r =
+-- at most four terms xs in the scope
+abbrev pub TermsSettled : Scope → List TermEntry → Result (List SheetTerm) Fault → Type 0
+TermsSettled s xs r =
     (rs : List Rule)
-    → Rising (map use_place (terms_uses (map (term_of text) xs)))
-    → Settles (UsesFault (fields_in text ls) rs (names_of text ws) (terms_uses (map (term_of text) xs)))
-    (λ ys. Each Term tree.Term (TermIs (fields_in text ls) (names_of text ws)) (map (term_of text) xs)
+    → Rising (map use_place (terms_uses (map (term_of s.text.now) xs)))
+    → Settles (UsesFault (fields_seen s) rs (params_seen s) (terms_uses (map (term_of s.text.now) xs)))
+    (λ ys. Each Term tree.Term (TermIs (fields_seen s) (params_seen s)) (map (term_of s.text.now) xs)
     (map number_term (take (length xs) ys)) × Padded (length xs) ys) r
 
 -- the weights of a join
@@ -191,16 +206,16 @@ WeightsSettled v r =
     → Settles (UsesFault fs rs ps (weight_uses (weights_of v)))
     (λ y. (left_weight (weights_of v) ≡ y.0) × (right_weight (weights_of v) ≡ y.1)) r
 
--- an entry in a line with the fields of the lines ls and the parameters ws, which may call the rules of the lines ks
-abbrev pub EntrySettled :
-    List ℕ → List FieldLine → List RuleLine → List WordEntry → NodeEntry → Result Node Fault → Type 0
-EntrySettled text ls ks ws x r =
+-- an entry in the scope
+abbrev pub EntrySettled : Scope → NodeEntry → Result Node Fault → Type 0
+EntrySettled s x r =
     (rs : List Rule) (f : Formula)
-    → Heads text ks rs
-    → IsEntry text x f
+    → Heads s.text.now s.rules.now rs
+    → CallsOnce rs
+    → IsEntry s.text.now x f
     → Rising (map use_place (own_uses f))
-    → Settles (UsesFault (fields_in text ls) rs (names_of text ws) (own_uses f))
-    (Numbered text (fields_in text ls) rs (names_of text ws) x) r
+    → Settles (UsesFault (fields_seen s) rs (params_seen s) (own_uses f))
+    (Numbered s.text.now (fields_seen s) rs (params_seen s) x) r
 
 -- a fault of what some entry from start to before end uses itself, where part gives the formula of each entry
 abbrev pub EntriesFault :
@@ -213,17 +228,23 @@ abbrev pub AreEntries : List ℕ → List NodeEntry → (part : ℕ → Formula)
 AreEntries text nodes part start end =
     (k : ℕ) → start ≤ k → k < end → IsEntry text (node_at nodes k) (part k) × Rising (map use_place (own_uses (part k)))
 
--- the entries from start to before end: their first fault, or none and the entries by their numbers
-abbrev pub EntriesSettled :
+-- the entries from start to before end, in a line with the fields of the lines ls and the parameters ws, which may call
+-- the rules of the lines ks: their first fault, or none and the entries by their numbers
+abbrev pub EntriesSettledWith :
     List ℕ → List FieldLine → List RuleLine → List WordEntry → List NodeEntry → (start end : ℕ) → List Node
     → Result (Unit {0}) Fault → Type 0
-EntriesSettled text ls ks ws raw start end nodes r =
+EntriesSettledWith text ls ks ws raw start end nodes r =
     (rs : List Rule) (part : ℕ → Formula)
     → Heads text ks rs
+    → CallsOnce rs
     → AreEntries text raw part start end
     → Settles (EntriesFault (fields_in text ls) rs (names_of text ws) part start end)
     (λ _. (k : ℕ) → start ≤ k → k < end
     → Numbered text (fields_in text ls) rs (names_of text ws) (node_at raw k) (number_node nodes k)) r
+
+-- the entries from start to before end, in the scope
+abbrev pub EntriesSettled : Scope → List NodeEntry → (start end : ℕ) → List Node → Result (Unit {0}) Fault → Type 0
+EntriesSettled s = EntriesSettledWith s.text.now s.fields.now s.rules.now s.params.now
 
 -- two tables agree outside the entries from start to before end
 abbrev pub SameOutside : List Node → List Node → (start end : ℕ) → Type 0
@@ -241,13 +262,12 @@ Declares text w l = Alike text l.name w ⊎ SomeOf (λ v. Alike text v w) l.para
 abbrev pub no_word : WordEntry
 no_word = record { place = 0; length = 0 }
 
--- the name w is that of a field, of a rule line above, of the line's own rule or of a parameter before it
-abbrev pub ParamTaken :
-    List ℕ → List FieldLine → List RuleLine → (own : WordEntry) → List WordEntry → WordEntry → Type 0
-ParamTaken text ls ks own before w =
-    SomeOf (λ f. Alike text f.name w) ls
-    ⊎ (SomeOf (λ r. Alike text r.name w) ks
-    ⊎ (Alike text own w ⊎ SomeOf (λ v. Alike text v w) before))
+-- the name w is that of a field, of a rule line in the scope, of the line's own rule or of a parameter before it
+abbrev pub ParamTaken : Scope → (own : WordEntry) → List WordEntry → WordEntry → Type 0
+ParamTaken s own before w =
+    SomeOf (λ f. Alike s.text.now f.name w) s.fields.now
+    ⊎ (SomeOf (λ r. Alike s.text.now r.name w) s.rules.now
+    ⊎ (Alike s.text.now own w ⊎ SomeOf (λ v. Alike s.text.now v w) before))
 
 -- a name that the rule line declares, its own w or one of its parameters ps, is taken
 abbrev pub NamesFault : List Field → (above : List Rule) → Word → List Word → (number place : ℕ) → Type 0
@@ -263,13 +283,17 @@ FieldSettled text above l r =
 
 -- the names that a rule line declares below the field lines ls and the rule lines ks, its own and its parameters ws:
 -- the first that is taken
-abbrev pub NamesSettled :
+abbrev pub NamesSettledWith :
     List ℕ → List FieldLine → List RuleLine → (own : WordEntry) → List WordEntry → Result (Unit {0}) Fault → Type 0
-NamesSettled text ls ks own ws r =
+NamesSettledWith text ls ks own ws r =
     (above : List Rule)
     → Heads text ks above
     → Rising (place_of (word_of text own) ∷ map place_of (names_of text ws))
     → Best (NamesFault (fields_in text ls) above (word_of text own) (names_of text ws)) r
+
+-- the names that a rule line declares in the scope, its own and the parameters of the scope
+abbrev pub NamesSettled : Scope → (own : WordEntry) → Result (Unit {0}) Fault → Type 0
+NamesSettled s own = NamesSettledWith s.text.now s.fields.now s.rules.now own s.params.now
 
 -- Whole lines
 
@@ -301,7 +325,8 @@ abbrev pub rule_places : Rule → List ℕ
 rule_places (rule_line p w ps f) = p ∷ place_of w ∷ (map place_of ps ++ formula_places f)
 
 -- the line, with its entries, is that of the rule, below the rules above and over no limit
-pub record IsRuleLine (text : List ℕ) (nodes : List NodeEntry) (line : RuleLine) (above : List Rule) (r : Rule) : Type 0 where
+pub record IsRuleLine (text : List ℕ) (nodes : List NodeEntry) (line : RuleLine) (above : List Rule)
+    (r : Rule) : Type 0 where
   pub head : IsHead text line r
   pub entries : Entries text nodes line.start line.body (rule_body r)
   pub few_rules : length above < 16
@@ -313,6 +338,7 @@ abbrev pub RuleSettled :
 RuleSettled text ls ks raw l nodes r =
     (above : List Rule) (x : Rule)
     → Heads text (take l ks) above
+    → CallsOnce above
     → IsRuleLine text raw (rule_at ks l) above x
     → Rising (rule_places x)
     → Settles (RuleFault (fields_in text ls) above x)
@@ -325,6 +351,7 @@ abbrev pub MarkSettled :
 MarkSettled text ls ks raw mark nodes r =
     (rs : List Rule) (p : ℕ) (f : Formula)
     → Heads text ks rs
+    → CallsOnce rs
     → Entries text raw mark.start mark.body f
     → (Over (sizes rs) [] f → ⊥)
     → Rising (formula_places f)
@@ -342,9 +369,13 @@ abbrev pub RulesFault : List Field → List Rule → (number place : ℕ) → Ty
 RulesFault fs rs n p = (i : ℕ) × (x : Rule) × Stands Rule rs i x × RuleFault fs (take i rs) x n p
 
 -- the field lines: their first fault
-abbrev pub FieldsSettled : List ℕ → List FieldLine → Result (Unit {0}) Fault → Type 0
-FieldsSettled text ls r =
+abbrev pub FieldsSettledWith : List ℕ → List FieldLine → Result (Unit {0}) Fault → Type 0
+FieldsSettledWith text ls r =
     (zs : List ℕ) → Rising (fields_places (fields_in text ls) zs) → Best (FieldsFault (fields_in text ls)) r
+
+-- the field lines of the scope
+abbrev pub FieldsSettled : Scope → Result (Unit {0}) Fault → Type 0
+FieldsSettled s = FieldsSettledWith s.text.now s.fields.now
 
 -- the entries of the first n rule lines are numbered
 abbrev pub RulesNumbered :
@@ -355,13 +386,17 @@ RulesNumbered text ls ks raw rs n nodes =
     (rule_at ks i).start ((rule_at ks i).body + 1)
 
 -- the rule lines: their first fault, or none and their entries by their numbers
-abbrev pub RulesSettled :
+abbrev pub RulesSettledWith :
     List ℕ → List FieldLine → List RuleLine → List NodeEntry → List Node → Result (Unit {0}) Fault → Type 0
-RulesSettled text ls ks raw nodes r =
+RulesSettledWith text ls ks raw nodes r =
     (rs : List Rule) (e : ℕ) (zs : List ℕ)
     → Rules text raw 0 ks rs e
     → Rising (rules_places rs zs)
     → Settles (RulesFault (fields_in text ls) rs) (λ _. RulesNumbered text ls ks raw rs (length rs) nodes) r
+
+-- the rule lines of the scope
+abbrev pub RulesSettled : Scope → List NodeEntry → List Node → Result (Unit {0}) Fault → Type 0
+RulesSettled s = RulesSettledWith s.text.now s.fields.now s.rules.now
 
 -- every line of the sheet is numbered
 abbrev pub AllNumbered : List ℕ → Table → List Node → Sheet → Type 0
@@ -382,7 +417,8 @@ abbrev pub RangesOf : List FieldLine → List Range → Type 0
 RangesOf fields ranges =
     (length ranges ≡ length fields)
     × ((i : ℕ) → i < length fields
-    → ((range_at ranges i).low ≡ (field_at fields i).low.value) × ((range_at ranges i).high ≡ (field_at fields i).high.value))
+    → ((range_at ranges i).low ≡ (field_at fields i).low.value)
+    × ((range_at ranges i).high ≡ (field_at fields i).high.value))
 
 -- the lines of the rule lines
 abbrev pub LinesOf : List RuleLine → List Line → Type 0

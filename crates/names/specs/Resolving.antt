@@ -13,7 +13,8 @@ use Rattle.names.specs.Faults.{Named, FirstFault}
 abbrev pub Readable : List ℕ → Table → Type 0
 Readable text t = (s : written.Sheet) × Holds text t s × WellRead s
 
--- the sheet as written is without fault and comes to the new sheet; or it has that first fault, and the sheet is as before
+-- the sheet as written is without fault and comes to the new sheet; or it has that first fault, and the sheet is as
+-- before
 abbrev pub Resolved : written.Sheet → (before after : Sheet) → Result (Unit {0}) Fault → Type 0
 Resolved s before after (Ok _) = Named s (tree_of after)
 Resolved s before after (Err f) = FirstFault s (number f.refusal) f.place × (after ≡ before)

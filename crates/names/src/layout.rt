@@ -1,6 +1,7 @@
-// The ranges and lines of a sheet, from its tables. These are no `From`: its types are of other crates. They push and do
-// not collect, which takes an allocator.
-ghost use Rattle.std.specs.Prelude.{◌≤◌, length};
+// The ranges and lines of a sheet, from its tables: no `From`, since the types are of other crates. They push, since
+// `collect` takes an allocator, and the error of `extend`, for a full vector, would have to be dropped.
+ghost use Rattle.std.specs.Prelude.{◌≡◌, ◌≤◌, length};
+ghost use Rattle.sheet.specs.declared.node.Line.{Line};
 ghost use Rattle.names.specs.Looking.{RangesOf, LinesOf, MarkOf};
 
 use arrayvec::ArrayVec;
@@ -22,6 +23,17 @@ pub(crate) fn ranges_of(fields: &[FieldLine]) -> ArrayVec<Range, 8>
     ranges
 }
 
+// The line of a rule line.
+pub(crate) fn line_of(rule: &RuleLine) -> Line
+    ensures { result ≡ record { params = length rule.now.params.items; start = rule.now.start; body = rule.now.body } }
+{
+    Line {
+        params: rule.params.len() as u8,
+        start: rule.start,
+        body: rule.body,
+    }
+}
+
 // The lines of the rule lines.
 pub(crate) fn rules_of(rules: &[RuleLine]) -> ArrayVec<Line, 16>
     requires { length rules.now ≤ 16 }
@@ -29,11 +41,7 @@ pub(crate) fn rules_of(rules: &[RuleLine]) -> ArrayVec<Line, 16>
 {
     let mut lines = ArrayVec::new();
     for rule in rules {
-        lines.push(Line {
-            params: rule.params.len() as u8,
-            start: rule.start,
-            body: rule.body,
-        });
+        lines.push(line_of(rule));
     }
     lines
 }

@@ -3,11 +3,11 @@
 
 mod declared;
 mod entries;
-mod fault;
 mod layout;
 mod lines;
 mod lookup;
 mod resolve;
+mod scope;
 mod summary;
 mod text;
 

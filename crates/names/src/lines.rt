@@ -1,16 +1,16 @@
 // The lines of a sheet one by one: the first fault of each, and their entries by numbers.
-ghost use Rattle.std.specs.Prelude.{◌+◌, ◌<◌, length};
-ghost use Rattle.names.specs.Looking.{RuleSettled, SameOutside, rule_at, FieldsSettled, RulesSettled, LinesSettled};
+ghost use Rattle.names.specs.Looking.{FieldsSettled, RulesSettled, LinesSettled};
 
 use crate::declared::{check_field, check_names};
-use crate::entries::Scope;
+use crate::layout::{line_of, mark_of};
+use crate::scope::Scope;
 use grammar::table::{Node as WrittenNode, Table};
 use refusal::{Fault, Refusal};
 use sheet::node::Node;
 
 // The first fault of the field lines.
 fn check_fields(scope: Scope) -> Result<(), Fault>
-    ensures { FieldsSettled scope.entry.text.now scope.entry.fields.now result }
+    ensures { FieldsSettled scope.entry result }
 {
     for (i, field) in scope.fields.iter().enumerate() {
         check_field(scope.text, &scope.fields[..i], *field)?;
@@ -18,34 +18,15 @@ fn check_fields(scope: Scope) -> Result<(), Fault>
     Ok(())
 }
 
-// Writes the entries of the rule line `l` by their numbers, or answers the first fault of the line.
-fn number_rule(
-    scope: Scope,
-    l: usize,
-    entries: &[WrittenNode],
-    nodes: &mut [Node; 256],
-) -> Result<(), Fault>
-    requires { l < length scope.rules.now }
-    ensures settled { RuleSettled scope.entry.text.now scope.entry.fields.now scope.entry.rules.now entries.now l
-        nodes.new result }
-    ensures outside { SameOutside nodes.old nodes.new
-        (rule_at scope.entry.rules.now l).start ((rule_at scope.entry.rules.now l).body + 1) }
-{
-    let rule = &scope.rules[l];
-    check_names(scope.of_line(l, &rule.params), rule.name)?;
-    scope
-        .of_line(l + 1, &rule.params)
-        .number_entries(entries, rule.start, rule.body, nodes)
-}
-
 // Writes the entries of the rule lines by their numbers, or answers their first fault.
 fn number_rules(scope: Scope, entries: &[WrittenNode], nodes: &mut [Node; 256]) -> Result<(), Fault>
-    ensures { RulesSettled scope.entry.text.now scope.entry.fields.now scope.entry.rules.now entries.now
-        nodes.new result }
+    ensures { RulesSettled scope.entry entries.now nodes.new result }
 {
-    // by number: a line may call the rules up to its own, and not every rule of the scope
-    for l in 0..scope.rules.len() {
-        number_rule(scope, l, entries, nodes)?;
+    for (i, rule) in scope.rules.iter().enumerate() {
+        check_names(scope.of_line(i, &rule.params), rule.name)?;
+        scope
+            .of_line(i + 1, &rule.params)
+            .number_entries(entries, line_of(rule), nodes)?;
     }
     Ok(())
 }
@@ -64,10 +45,7 @@ pub(crate) fn number_lines(text: &[u8], table: &Table, nodes: &mut [Node; 256]) 
     check_fields(scope)?;
     number_rules(scope, &table.nodes, nodes)?;
     if let Some(place) = table.over {
-        return Err(Fault {
-            refusal: Refusal::TooMany,
-            place,
-        });
+        return Err(Refusal::TooMany.at(place));
     }
-    scope.number_entries(&table.nodes, table.mark.start, table.mark.body, nodes)
+    scope.number_entries(&table.nodes, mark_of(table.mark), nodes)
 }

@@ -49,10 +49,10 @@ fn spelled<'a>(text: &'a [u8], word: Word) -> &'a [u8]
 }
 
 // Whether two names are spelled alike.
-pub(crate) fn alike(text: &[u8], a: Word, b: Word) -> bool
-    ensures { IsTrue result ↔ Alike text.now a b }
+pub(crate) fn alike(text: &[u8], one: Word, other: Word) -> bool
+    ensures { IsTrue result ↔ Alike text.now one other }
 {
-    spelled(text, a) == spelled(text, b)
+    spelled(text, one) == spelled(text, other)
 }
 
 // The number of an item with that name.

@@ -2,7 +2,7 @@
 
 #[derive(Clone, Copy, PartialEq, Eq, Debug)]
 pub struct Contents {
-    pub fields: usize,
-    pub rules: usize,
-    pub formulas: usize,
+    pub fields: u64,
+    pub rules: u64,
+    pub formulas: u64,
 }

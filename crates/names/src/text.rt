@@ -18,15 +18,17 @@ fn table_of(text: &[u8]) -> Result<Table, Fault>
 }
 
 // Replaces the sheet by the one that the text spells; or answers the text's first fault and leaves the sheet as it is.
+#[tactic(auto, using(crate::proofs::Readings::one_reading))]
 pub fn read(text: &[u8], sheet: &mut Sheet) -> Result<Contents, Fault>
     ensures reads { Reads text.now sheet.old sheet.new result }
     ensures one_reading { OneReading text.now }
 {
     let table = table_of(text)?;
     resolve(text, &table, sheet)?;
+    // std has no `From<usize>` for `u64`, so lengths are cast
     Ok(Contents {
-        fields: table.fields.len(),
-        rules: table.rules.len(),
-        formulas: usize::from(table.mark.body) + 1,
+        fields: table.fields.len() as u64,
+        rules: table.rules.len() as u64,
+        formulas: u64::from(table.mark.body) + 1,
     })
 }

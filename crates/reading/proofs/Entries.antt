@@ -1,5 +1,6 @@
 -- What the entries of a sheet's table say of their parts, and how they read.
 use Rattle.std.proofs.Common.{◌≡◌, ℕ, suc, ◌-◌, ◌<◌, ◌≤◌, Bool, true, false, not, ◌≢◌, List, [], ◌∷◌, map, length, take, Some, None, Option, sym, refl, ap, ◌∙◌, subst, ap₂, subst₂, arith}
+use Rattle.std.proofs.lemmas.Bool.{and_parts}
 use Rattle.std.specs.Bool.{beq}
 use Rattle.std.proofs.lemmas.Bool.Decides.{nat_tests as tests}
 use Rattle.std.proofs.lemmas.List.{length-map, length-take-le, get_or-map, take-map}
@@ -10,9 +11,8 @@ use Rattle.formula.specs.Trees as tree
 use Rattle.meaning.specs.Terms.{body, formula_of, value, wants}
 use Rattle.meaning.specs.Reading.{said, ran_out, Reads, tells, called, uncalled, turns, picked, left_out}
 use Rattle.meaning.specs.Reading.{left_only, right_too}
-use Rattle.meaning.proofs.Basics.{and_left, and_right}
 use Rattle.sheet.specs.declared.node.Name.{Name}
-use Rattle.sheet.specs.declared.node.Term.{Term}
+use Rattle.sheet.specs.Table.{SheetTerm as Term}
 use Rattle.sheet.specs.declared.node.Node.{Node}
 use Rattle.sheet.specs.declared.node.Node.TheVariants.{Compare, Call, Not, Pick, Join}
 use Rattle.sheet.specs.declared.node.Line.{Line}
@@ -52,8 +52,8 @@ module _ (s : Sheet) (l i : ℕ) (w : Within (length s.rules.items) (lines_in s)
   terms_known {t = t} {u = u} p q is =
       let left = known_term (length s.ranges.items) (line_at (lines_in s) l).params t in
       let e = kept_as is in (
-        ap₂ (λ (x y : ℕ). known_term x y t) p q ∙ and_left left _ e,
-        ap₂ (λ (x y : ℕ). known_term x y u) p q ∙ and_right left _ e,
+        ap₂ (λ (x y : ℕ). known_term x y t) p q ∙ (and_parts left _ e).0,
+        ap₂ (λ (x y : ℕ). known_term x y u) p q ∙ (and_parts left _ e).1,
       )
 
   -- a call is of a rule of the sheet, with as many terms as that has parameters
@@ -74,21 +74,19 @@ module _ (s : Sheet) (l i : ℕ) (w : Within (length s.rules.items) (lines_in s)
 module _
     {s : Sheet} {l r k : ℕ} {ts : List Term} (c : Called s l r k ts) (m e vs : List ℕ)
     (p : vs ≡ values m e ts) where
-  pub numbers_long : length vs ≡ 4
-  numbers_long = ap length p ∙ length-map ts (λ t. value m e (term_of t)) ∙ c.long
+  pub numbers_enough : k ≤ length vs
+  numbers_enough = omega (arith, ap length p, length-map ts (λ t. value m e (term_of t)), c.long, c.few)
 
   pub numbers_count : length (take k vs) ≡ (line_at (lines_in s) r).params
-  numbers_count = length-take-le k vs (omega (arith, numbers_long, c.few)) ∙ c.count
-
--- what stands past the end of the lines
-abbrev no_line : Line
-no_line = record { params = 0; start = 0; body = 0 }
+  numbers_count = length-take-le k vs numbers_enough ∙ c.count
 
 -- the formula of a called rule
 pub rule_body :
     (s : Sheet) (r : ℕ) → r < length s.rules.items
     → formula_at s.nodes (line_at s.rules.items r).body ≡ body (rules s) r
-rule_body s r lt = sym (ap formula_of (get_or-map (rule_of s.nodes) s.rules.items r no_line _ lt))
+rule_body s r lt =
+    let past : Line = record { params = 0; start = 0; body = 0 } in
+    sym (ap formula_of (get_or-map (rule_of s.nodes) s.rules.items r past _ lt))
 
 -- an entry reads as the formula that it is the whole of
 as_whole :
@@ -126,6 +124,11 @@ agree true true e = refl
 agree true false e = absurd cc
 agree false true e = absurd cc
 agree false false e = refl
+
+-- equal numbers name one entry
+pub at_entry :
+    {s : Sheet} {m e : List ℕ} {i j n k : ℕ} {o : Option Bool} → i ≡ j → Read s m e i n o k → Read s m e j n o k
+at_entry {s} {m} {e} {n = n} {k = k} {o = o} p d = subst (λ i. Read s m e i n o k) p d
 
 -- the reading of the entry i of the line l, by the kind of entry
 module _

@@ -6,7 +6,7 @@ use Rattle.std.proofs.ByRecursion.{All-from_get_or, All-get_or}
 use Rattle.std.proofs.lemmas.Bool.Decides.{nat_tests}
 use Rattle.std.proofs.lemmas.List.{length-map}
 use Rattle.marks.specs.Sets.{Shaped}
-use Rattle.meaning.specs.Terms.{ranges_of, fields_of}
+use Rattle.meaning.specs.Terms.{fields_of}
 use Rattle.meaning.specs.Reading.{ranged, calls_made, Verdict, not_allowed, verdict, Checks, out_of_range}
 use Rattle.meaning.specs.Reading.{in_range}
 use Rattle.meaning.proofs.Readings.{calls_spend}
@@ -15,10 +15,6 @@ use Rattle.sheet.specs.declared.table.Sheet.{Sheet}
 use Rattle.sheet.specs.Table.{range_at}
 use Rattle.sheet.specs.Sheets.{range_of, tree_of}
 use Rattle.reading.specs.Steps.{Inside, answer, rules, ranges, Read}
-
--- what stands past the end of the ranges
-abbrev no_range : Range
-no_range = record { low = 0; high = 0 }
 
 -- numbers that lie in their ranges are ranged, and numbers that are ranged lie in them
 ranged_when :
@@ -56,17 +52,15 @@ pub ranged_as :
     → b ≡ ranged (map range_of rs) 0 m
 ranged_as rs m b e h =
     both_ways b _
-    (λ t. ranged_when rs 0 m (λ k lt. subst (λ i. Inside (range_at rs k) (get_or m i 0)) (sym (zero-add k)) (h.0 t k (omega arith))))
-    (λ t. h.1 (λ k lt. subst (λ i. Inside (range_at rs k) (get_or m i 0)) (zero-add k) (ranged_only rs 0 m t k (omega arith))))
+    (λ t. ranged_when rs 0 m
+    (λ k lt. subst (λ i. Inside (range_at rs k) (get_or m i 0)) (sym (zero-add k)) (h.0 t k (omega arith))))
+    (λ t. h.1
+    (λ k lt. subst (λ i. Inside (range_at rs k) (get_or m i 0)) (zero-add k) (ranged_only rs 0 m t k (omega arith))))
 
 module _ (s : Sheet) where
   pub fields_counted : fields_of (tree_of s) ≡ length s.ranges.items
   unfolding tree_of
   fields_counted = length-map s.ranges.items range_of
-
-  pub tree_ranges : ranges_of (tree_of s) ≡ ranges s
-  unfolding tree_of
-  tree_ranges = refl
 
   -- the shape of a mark
 

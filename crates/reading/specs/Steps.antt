@@ -4,7 +4,7 @@ use Rattle.formula.specs.Trees.{Rule, Range}
 use Rattle.meaning.specs.Terms.{value}
 use Rattle.meaning.specs.Reading.{Answer, said, ran_out, left, Reads}
 use Rattle.sheet.specs.declared.node.Range.{Range as FieldRange}
-use Rattle.sheet.specs.declared.node.Term.{Term}
+use Rattle.sheet.specs.Table.{SheetTerm}
 use Rattle.sheet.specs.declared.table.Sheet.{Sheet}
 use Rattle.sheet.specs.Table.{term_of, formula_at}
 use Rattle.sheet.specs.Sheets.{range_of, rule_of}
@@ -14,7 +14,7 @@ abbrev pub Inside : FieldRange → ℕ → Type 0
 Inside r v = (r.low ≤ v) × (v ≤ r.high)
 
 -- the numbers of some terms
-abbrev pub values : (m e : List ℕ) → List Term → List ℕ
+abbrev pub values : (m e : List ℕ) → List SheetTerm → List ℕ
 values m e ts = map (λ t. value m e (term_of t)) ts
 
 -- what a formula reads as: its result with the fuel that is left, or spent

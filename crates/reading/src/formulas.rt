@@ -9,8 +9,9 @@ use crate::terms::Numbers;
 use sheet::node::Node;
 use sheet::table::Sheet;
 
-// Reads the entry `node` of the line `line`, with the fuel that is there; none when it is spent. The sheet stays beside
-// the numbers, which a call changes, and the line and the entry, which each part changes.
+// Reads the entry `node` of the line `line`, with the fuel that is there; none when it is spent. Plain evaluation that
+// recurses over the sheet's table of formulas, and is not generic, is a rule of the project. The line is for the
+// contract, which says by it how many parameters there are.
 pub(crate) fn read(
     sheet: &Sheet,
     numbers: Numbers,
@@ -21,37 +22,31 @@ pub(crate) fn read(
     requires within { Within (length sheet.now.rules.items) (lines_in sheet.now) line node }
     requires fields { length numbers.mark.now ≡ length sheet.now.ranges.items }
     requires params { length numbers.args.now ≡ (line_at (lines_in sheet.now) line).params }
-    ensures read { Read sheet.now numbers.entry.mark.now numbers.entry.args.now node
-        fuel.old result fuel.new }
+    ensures read { Read sheet.now numbers.entry.mark.now numbers.entry.args.now node fuel.old result fuel.new }
     ensures falls { fuel.new ≤ fuel.old }
 {
     match sheet.nodes[node] {
         Node::Compare(left, sign, right) => {
-            let left = numbers.of_term(left);
-            let right = numbers.of_term(right);
-            Some(sign.holds(left, right))
+            Some(sign.holds(numbers.of_term(left), numbers.of_term(right)))
         }
         Node::Call(rule, count, terms) => {
             *fuel = fuel.checked_sub(1)?;
             let passed = numbers.of_terms(terms);
-            let (rule, count) = (rule as usize, count as usize);
-            let body = sheet.rules[rule].body as usize;
+            let (rule, count) = (usize::from(rule), usize::from(count));
+            let body = usize::from(sheet.rules[rule].body);
             let mark = numbers.mark;
             let args = &passed[..count];
             read(sheet, Numbers { mark, args }, rule, body, fuel)
         }
-        Node::Not(part) => {
-            let result = read(sheet, numbers, line, part as usize, fuel)?;
-            Some(!result)
-        }
-        Node::Pick(_, part) => read(sheet, numbers, line, part as usize, fuel),
+        Node::Not(part) => Some(!read(sheet, numbers, line, usize::from(part), fuel)?),
+        Node::Pick(_, part) => read(sheet, numbers, line, usize::from(part), fuel),
         Node::Join(join, _, _, first, second) => {
-            let result = read(sheet, numbers, line, first as usize, fuel)?;
+            let result = read(sheet, numbers, line, usize::from(first), fuel)?;
             // the other result decides the join, and its right side is not read
             if result != join.wants() {
                 Some(result)
             } else {
-                read(sheet, numbers, line, second as usize, fuel)
+                read(sheet, numbers, line, usize::from(second), fuel)
             }
         }
     }

@@ -17,7 +17,8 @@ use refusal::Refusal;
 use sheet::table::Sheet;
 use terms::Numbers;
 
-// What a check says of a mark.
+// What a check says of a mark. An enum of its own: a check has three answers, each with a name, and an `Option<bool>`,
+// as the reading of a formula answers, says none of the names.
 #[derive(Clone, Copy, PartialEq, Eq, Debug)]
 pub enum Verdict {
     Allowed,
@@ -57,7 +58,7 @@ fn read_mark(sheet: &Sheet, mark: &[u16], fuel: u8) -> Reading
     }
     let mut left = fuel;
     let line = sheet.rules.len();
-    let body = sheet.mark.body as usize;
+    let body = usize::from(sheet.mark.body);
     let numbers = Numbers { mark, args: &[] };
     let result = formulas::read(sheet, numbers, line, body, &mut left);
     Reading {

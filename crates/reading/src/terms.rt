@@ -8,7 +8,7 @@ ghost use Rattle.reading.specs.Steps.{values};
 use sheet::node::{Name, Term};
 
 // The numbers of the fields, and of a line's parameters.
-#[derive(Clone, Copy)]
+#[derive(Clone, Copy, Debug, PartialEq, Eq)]
 pub(crate) struct Numbers<'a> {
     pub(crate) mark: &'a [u16],
     pub(crate) args: &'a [u16],
@@ -21,8 +21,8 @@ impl Numbers<'_> {
         ensures { result ≡ named self.entry.mark.now self.entry.args.now (name_of name) }
     {
         match name {
-            Name::Field(f) => self.mark[f as usize],
-            Name::Param(p) => self.args[p as usize],
+            Name::Field(field) => self.mark[usize::from(field)],
+            Name::Param(param) => self.args[usize::from(param)],
         }
     }
 
@@ -32,7 +32,7 @@ impl Numbers<'_> {
         ensures { result ≡ value self.entry.mark.now self.entry.args.now (term_of term) }
     {
         match term {
-            Term::Number(n) => n,
+            Term::Number(number) => number,
             Term::Bare(name) => self.of_name(name),
             Term::Moved(name, by) => by.apply(self.of_name(name)),
         }

@@ -46,7 +46,10 @@ int_nat a b = grind (arith, nat_tests, ints)
 pub refusal_cmp : (r s : Refusal) → refusal.cmp-value.it r s ≡ nat_cmp (number r) (number s)
 refusal_cmp r s = ap₂ int_cmp (tag_is r) (tag_is s) ∙ int_nat (number r) (number s)
 
-pub fault_cmp : (f g : Fault) → fault.cmp-value.it f g ≡ ordering_then (nat_cmp f.place g.place) (nat_cmp (number f.refusal) (number g.refusal))
+pub fault_cmp :
+    (f g : Fault)
+    → fault.cmp-value.it f g
+    ≡ ordering_then (nat_cmp f.place g.place) (nat_cmp (number f.refusal) (number g.refusal))
 fault_cmp f g = ap (ordering_then (nat_cmp f.place g.place)) (refusal_cmp f.refusal g.refusal)
 
 -- the pair of numbers p and m comes no later than the pair q and n

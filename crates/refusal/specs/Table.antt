@@ -1,5 +1,7 @@
 -- The table of returned numbers: every refusal has one number, and the refusals of a text have a layer.
-use Rattle.std.specs.Prelude.{ℕ, cond, leb}
+use Rattle.std.specs.Prelude.{ℕ, cond, leb, Some, None, Option}
+use Rattle.refusal.specs.declared.layers.Layer.{Layer}
+use Rattle.refusal.specs.declared.layers.Layer.TheVariants.{Signs, Grammar, Names}
 use Rattle.refusal.specs.declared.Refusal.{Refusal}
 use Rattle.refusal.specs.declared.Refusal.TheVariants.{TextTooLong, ByteNotPermitted, OverLimit, TokenNotPermitted, TooDeep, JoinMixes, NameTaken, NameUnknown, WrongTermCount, WrongNumber, TooMany, FieldsDiffer, ListTooShort, TraceUnfit, NotFinished, NotAMark, BadSeed, BufferTooShort, Outside, PairsFull}
 
@@ -33,3 +35,14 @@ layer_of n = cond (leb n 3) 1 (cond (leb n 6) 2 (cond (leb n 11) 3 0))
 -- the layer of reading that a refusal belongs to
 abbrev pub layer : Refusal → ℕ
 layer r = layer_of (number r)
+
+-- the number of a layer
+abbrev pub layer_number : Layer → ℕ
+layer_number Signs = 1
+layer_number Grammar = 2
+layer_number Names = 3
+
+-- the number of the layer that is answered, 0 for none
+abbrev pub answered : Option Layer → ℕ
+answered (Some l) = layer_number l
+answered None = 0

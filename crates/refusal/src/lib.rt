@@ -1,8 +1,12 @@
-// The one table of numbers that a call may return in place of its work.
+// Why a call refuses: one enum of all refusals, each with its own number.
 #![tactic(auto)]
 
+mod layers;
+
 ghost use Rattle.std.specs.Prelude.{◌≡◌};
-ghost use Rattle.refusal.specs.Table.{number, layer};
+ghost use Rattle.refusal.specs.Table.{number, layer, answered};
+
+pub use layers::Layer;
 
 #[derive(Clone, Copy, PartialEq, Eq, PartialOrd, Ord, Debug)]
 pub enum Refusal {
@@ -54,16 +58,16 @@ impl Refusal {
         }
     }
 
-    // The layer of reading that refuses: 1 signs, 2 grammar, 3 names; 0 for a refusal that is not of a text. It is a
-    // number, and no enum, since the line of a fault prints it.
-    pub fn layer(self) -> u8
-        ensures { result ≡ layer self }
+    // The layer of reading that refuses, or none for a refusal that is not of a text. It goes by number, since each
+    // layer has a stretch of the table's numbers: the cases by name would say no more.
+    pub fn layer(self) -> Option<Layer>
+        ensures { answered result ≡ layer self }
     {
         match self.number() {
-            1..=3 => 1,
-            4..=6 => 2,
-            7..=11 => 3,
-            _ => 0,
+            1..=3 => Some(Layer::Signs),
+            4..=6 => Some(Layer::Grammar),
+            7..=11 => Some(Layer::Names),
+            _ => None,
         }
     }
 }

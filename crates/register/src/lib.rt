@@ -48,7 +48,7 @@ impl RegisterStore<'_> {
         self.register.chunks_exact(self.allowed.fields())
     }
 
-    // Whether no row is left.
+    // Whether no row is left. A loop and no `any`: that it goes over the rows in a loop is a rule of the project.
     fn none_left(&self) -> bool
         ensures { TellsEmpty (width_of self.now) (register_left self.now) result }
     {

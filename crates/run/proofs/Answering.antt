@@ -1,6 +1,10 @@
 -- What the lists hold at the end of a run, and what a run that is halted or ends early means.
 use Rattle.std.proofs.Common.{◌≡◌, ℕ, zero, suc, ◌+◌, ◌≤◌, List, [], ◌∷◌, ◌++◌, length, take, drop, set, Some, None, Ok, Err, Result, sym, refl, ap, ◌∙◌, subst, inl, inr, arith}
 use lib.Seq.{set-get_or, sets, sets-eq}
+use Rattle.std.specs.Result.{IfOk}
+use Rattle.std.proofs.Math.Seq.{take-length}
+use Rattle.std.proofs.lemmas.List.{take-append-le}
+use Rattle.arrayvec.specs.ArrayVec.{ArrayVec}
 use Rattle.formula.specs.Trees.{Sheet}
 use Rattle.marks.specs.Sets.{Marks, MarksOf}
 use Rattle.meaning.specs.Terms.{fields_of}
@@ -8,15 +12,21 @@ use Rattle.meaning.specs.Traces.{Choice, width, took, Trace}
 use Rattle.meaning.specs.Runs.{Outcome, mark, dead_end, spent_run, Run}
 use Rattle.meaning.specs.Draws.{Takes, takes_none, takes_one}
 use Rattle.meaning.proofs.Runs.{run_part}
+use Rattle.run.specs.declared.answer.Ended.{Ended}
+use Rattle.run.specs.declared.answer.Ended.TheVariants as ended
 use Rattle.run.specs.declared.stop.Stop.{Stop}
 use Rattle.run.specs.declared.stop.Stop.TheVariants.{DeadEnd, Spent, Halted}
 use Rattle.run.specs.Guides.{Noted, Guide, recorded, numbers, NoPick, Guided, entries}
-use Rattle.run.specs.Answering.{over, picks_of, widths_of}
+use Rattle.run.specs.Answering.{over, filled, outcome_of, picks_of, widths_of}
 use Rattle.run.specs.Ways.{Trail, trail, put, written, Way, Took, Halt}
-use Rattle.run.specs.Whole.{Running, Along, end_of}
+use Rattle.run.specs.Whole.{Running, Along, Reported}
 use Rattle.run.proofs.Guides.{guided_one, guided_apart, halted_one, halted_apart}
 
 -- The lists
+
+take_front : (xs ys : List ℕ) (n : ℕ) → length xs ≡ n → take n (xs ++ ys) ≡ xs
+take_front xs ys n e =
+    subst (λ k. take k (xs ++ ys) ≡ xs) e (take-append-le (length xs) xs ys (omega arith) ∙ take-length xs)
 
 pub picks_long : (t : Trace) → length (picks_of t) ≡ length t
 picks_long [] = refl
@@ -129,18 +139,18 @@ module _ (s : Sheet) (fuel : ℕ) (S : Marks) (B : MarksOf (fields_of s) S) wher
       differ q = let z = ap count q in omega arith
 
   pub unfit_none :
-      (z y : Way) (x : Result (List ℕ) Stop) (e : Noted) (es : List Noted)
+      (z y : Way) (x : Result (ArrayVec ℕ) Stop) (e : Noted) (es : List Noted)
       → Along s fuel S z x y
       → y.guide ≡ recorded (e ∷ es)
       → (t : Trace) (o : Outcome) → Run s fuel S t o → Guided z.guide t (recorded []) → ⊥
-  unfit_none z y (Ok vs) e es k is t o r g = early_none z y (mark (take (fields_of s) vs)) e es k is t o r g
+  unfit_none z y (Ok vs) e es k is t o r g = early_none z y (mark vs.items) e es k is t o r g
   unfit_none z y (Err DeadEnd) e es k is t o r g = early_none z y dead_end e es k is t o r g
   unfit_none z y (Err Spent) e es k is t o r g = early_none z y spent_run e es k is t o r g
   unfit_none z y (Err Halted) e es k is t o r g = halted_none z y k t o (recorded []) r g
 
   -- the lists then
   pub unfit_same :
-      (ps ws : List ℕ) (n : ℕ) (y : Way) (x : Result (List ℕ) Stop) (e : Noted) (es : List Noted)
+      (ps ws : List ℕ) (n : ℕ) (y : Way) (x : Result (ArrayVec ℕ) Stop) (e : Noted) (es : List Noted)
       → Along s fuel S (record { trail = trail ps ws 0; guide = recorded (entries ps ws 0 n) }) x y
       → y.guide ≡ recorded (e ∷ es)
       → (y.trail.picks ≡ ps) × (y.trail.widths ≡ ws)
@@ -149,30 +159,40 @@ module _ (s : Sheet) (fuel : ℕ) (S : Marks) (B : MarksOf (fields_of s) S) wher
   unfit_same ps ws n y (Err Spent) e es k is = took_same ps ws n y e es k.trace k.guided k.end is
   unfit_same ps ws n y (Err Halted) e es k is = took_same ps ws n y e es k.before k.guided k.end is
 
--- the run whose outcome an end tells
-pub along_took :
-    (s : Sheet) (fuel : ℕ) (S : Marks) (z y : Way) (x : Result (List ℕ) Stop) (o : Outcome)
-    → end_of x (fields_of s) ≡ Some o
-    → Along s fuel S z x y
-    → Took z (λ t. Run s fuel S t o) y
-along_took s fuel S z y (Ok vs) o e k =
-    let q : mark (take (fields_of s) vs) ≡ o = cc in
-    subst (λ a. Took z (λ t. Run s fuel S t a) y) q k
-along_took s fuel S z y (Err DeadEnd) o e k = let q : dead_end ≡ o = cc in subst
-    (λ a. Took z (λ t. Run s fuel S t a) y) q k
-along_took s fuel S z y (Err Spent) o e k = let q : spent_run ≡ o = cc in subst
-    (λ a. Took z (λ t. Run s fuel S t a) y) q k
-along_took s fuel S z y (Err Halted) o e k = let q : ◌≡◌ {A = ℕ} 0 1 = cc in absurd (omega arith)
+-- the run whose outcome a report tells
+module _ (s : Sheet) (fuel : ℕ) (S : Marks) (z y : Way) (m m' : List ℕ) where
+  pub along_took :
+      (x : Result (ArrayVec ℕ) Stop) (n : ℕ) (a : Ended)
+      → IfOk x (λ vs. length vs.items ≡ n)
+      → Reported x m (Some a) m'
+      → Along s fuel S z x y
+      → Took z (λ t. Run s fuel S t (outcome_of a n m')) y × (m' ≡ filled (outcome_of a n m') m)
+  along_took (Ok vs) n a l h k =
+      let e : a ≡ ended.Mark = cc in
+      let is : take n m' ≡ vs.items = ap (take n) h.1 ∙ take_front vs.items (drop (length vs.items) m) n l in
+      subst (λ q. Took z (λ t. Run s fuel S t (outcome_of q n m')) y × (m' ≡ filled (outcome_of q n m') m)) (sym e) (
+        subst (λ q. Took z (λ t. Run s fuel S t (mark q)) y) (sym is) k,
+        subst (λ q. m' ≡ over q m) (sym is) h.1,
+      )
+  along_took (Err DeadEnd) n a l h k =
+      let e : a ≡ ended.DeadEnd = cc in
+      subst (λ q. Took z (λ t. Run s fuel S t (outcome_of q n m')) y × (m' ≡ filled (outcome_of q n m') m)) (sym e)
+      (k, h.1)
+  along_took (Err Spent) n a l h k =
+      let e : a ≡ ended.Spent = cc in
+      subst (λ q. Took z (λ t. Run s fuel S t (outcome_of q n m')) y × (m' ≡ filled (outcome_of q n m') m)) (sym e)
+      (k, h.1)
+  along_took (Err Halted) n a l h k = let q : ◌≡◌ {A = ℕ} 0 1 = cc in absurd (omega arith)
 
-pub along_halt :
-    (s : Sheet) (fuel : ℕ) (S : Marks) (z y : Way) (x : Result (List ℕ) Stop)
-    → end_of x (fields_of s) ≡ None
-    → Along s fuel S z x y
-    → Halt z (Running s fuel S) y
-along_halt s fuel S z y (Ok vs) e k = let q : ◌≡◌ {A = ℕ} 0 1 = cc in absurd (omega arith)
-along_halt s fuel S z y (Err DeadEnd) e k = let q : ◌≡◌ {A = ℕ} 0 1 = cc in absurd (omega arith)
-along_halt s fuel S z y (Err Spent) e k = let q : ◌≡◌ {A = ℕ} 0 1 = cc in absurd (omega arith)
-along_halt s fuel S z y (Err Halted) e k = k
+  pub along_halt :
+      (x : Result (ArrayVec ℕ) Stop)
+      → Reported x m None m'
+      → Along s fuel S z x y
+      → Halt z (Running s fuel S) y × (m' ≡ m)
+  along_halt (Ok vs) h k = let q : ◌≡◌ {A = ℕ} 0 1 = cc in absurd (omega arith)
+  along_halt (Err DeadEnd) h k = let q : ◌≡◌ {A = ℕ} 0 1 = cc in absurd (omega arith)
+  along_halt (Err Spent) h k = let q : ◌≡◌ {A = ℕ} 0 1 = cc in absurd (omega arith)
+  along_halt (Err Halted) h k = (k, h.1)
 
 -- at the end of the entries there is a pick
 pub entries_over : (c : Choice) → NoPick (recorded []) c → ⊥

@@ -1,12 +1,12 @@
 -- Each kind of formula, as one turn.
-use Rattle.std.proofs.Common.{◌≡◌, ℕ, zero, suc, ◌-◌, ◌<◌, Bool, true, false, not, ◌≢◌, List, [], ◌∷◌, ◌++◌, Some, None, sym, refl, ap, subst, inl, inr, append-nil, arith}
+use Rattle.std.proofs.Common.{◌≡◌, ℕ, zero, suc, ◌-◌, ◌<◌, Bool, true, false, not, ◌≢◌, List, [], ◌∷◌, ◌++◌, Ok, Err, sym, refl, ap, subst, inl, inr, append-nil, arith}
 use mathlib.Core.Bool.{beq}
 use borrow.Author.Tests.{clash}
 use Rattle.marks.specs.Sets.{Marks}
 use Rattle.formula.specs.Trees.{Rule, Formula, Name, Term, compare, call, negate, pick, join}
 use Rattle.formula.specs.declared.Comparison.{Comparison}
 use Rattle.formula.specs.declared.Join.{Join}
-use Rattle.meaning.specs.Terms.{body, wants}
+use Rattle.meaning.specs.Terms.{body, wants, aimed}
 use Rattle.meaning.specs.Traces.{Trace, took, branch}
 use Rattle.marks.specs.Sets.{Empty}
 use Rattle.meaning.specs.Matching.{Settles, Passes, no_more, passes, live, dead, spent}
@@ -22,13 +22,15 @@ use Rattle.meaning.proofs.Picks.{arg_alive}
 use Rattle.run.specs.declared.goal.Argument.{Argument as Held}
 use Rattle.run.specs.declared.goal.Frame.{Frame}
 use Rattle.run.specs.Frames.{arguments_of, argument_of}
-use Rattle.run.specs.Ways.{Way, Took, Halt, Fits, Room, Chosen}
+use Rattle.run.specs.Ways.{Way, Took, Halt, Halts, Fits, Room, Chosen}
 use Rattle.run.specs.Settling.{Settled, Settling}
 use Rattle.run.specs.Comparing.{Compared, Comparing}
+use Rattle.run.specs.declared.stop.Stop.{Stop}
+use Rattle.run.specs.declared.stop.Stop.TheVariants.{DeadEnd, Halted}
 use Rattle.run.specs.declared.turn.Sides.TheVariants.{Both}
 use Rattle.run.specs.Goals.{Passing, Passed, Solving, Leads, Sided}
-use Rattle.run.proofs.Ways.{took_map, took_none, halt_on, fits_on}
-use Rattle.run.proofs.Comparing.{resolves_alive}
+use Rattle.run.proofs.Ways.{took_map, took_none, halt_on, halts_on, fits_on}
+use Rattle.run.proofs.Comparing.{resolves_alive, aim}
 use Rattle.run.proofs.Turns.{solves_some}
 
 pub passes_alive :
@@ -50,34 +52,35 @@ module _ (rules : List Rule) (e : List Argument) (b : Bool) (rest : List Waiting
   module _ (l : Term) (s : Comparison) (r : Term) where
     compare_on :
         (v : Trace)
-        → Comparing e l s r b S v
+        → Comparing e l (aimed b s) r S v
         → (u' : Trace) × Solving rules (goal e (compare l s r) b ∷ rest) u S (v ++ u')
     compare_on v m =
-        let q = solves_some rules rest S C (m.0 u) (matches_alive rules (m.1 rules u))
-        (λ k h. (matched_sound rules k (m.1 rules u) h).0) in
-        (q.0, (q.1, solves (m.1 rules u) q.2))
+        let k = aim {s = s} {b = b} (m.1 rules u) in
+        let q = solves_some rules rest S C (m.0 u) (matches_alive rules k)
+        (λ i h. (matched_sound rules i k h).0) in
+        (q.0, (q.1, solves k q.2))
 
     pub compare_fits :
         Fits z (Solving rules (goal e (compare l s r) b ∷ rest) u S)
-        → Fits z (Comparing e l s r b S)
+        → Fits z (Comparing e l (aimed b s) r S)
     compare_fits = fits_on compare_on
 
     module _ (P : Marks) (y : Way) where
       pub compare_halt :
-          Compared w e l s r b S z None P y
+          Compared w e l (aimed b s) r S z (Err Halted) P y
           → Halt z (Solving rules (goal e (compare l s r) b ∷ rest) u S) y
       compare_halt h = halt_on compare_on h
 
       pub compare_led :
-          Compared w e l s r b S z (Some true) P y
+          Compared w e l (aimed b s) r S z (Ok tt) P y
           → Took z (Leads rules (goal e (compare l s r) b ∷ rest) u S rest u P) y
-      compare_led k = took_map (λ v m u' o q. solves (m rules u) q) k.took
+      compare_led k = took_map (λ v m u' o q. solves (aim {s = s} {b = b} (m rules u)) q) k.took
 
       pub compare_dead :
-          Compared w e l s r b S z (Some false) P y
+          Compared w e l (aimed b s) r S z (Err DeadEnd) P y
           → Took z (λ v. Solves rules (goal e (compare l s r) b ∷ rest) (live u S) v dead) y
       compare_dead k = took_map (λ v m. subst (λ q. Solves rules (goal e (compare l s r) b ∷ rest) (live u S)
-          q dead) (append-nil v) (solves (m rules u) (step_dead rules rest))) k
+          q dead) (append-nil v) (solves (aim {s = s} {b = b} (m rules u)) (step_dead rules rest))) k
 
   module _ (n : Name) (F : Formula) (a : Held) (is : argument_of a ≡ named e n) where
     pick_on :
@@ -96,12 +99,14 @@ module _ (rules : List Rule) (e : List Argument) (b : Bool) (rest : List Waiting
     pick_fits = fits_on pick_on
 
     module _ (P : Marks) (y : Way) where
-      pub pick_halt : Settled w S a z None P y → Halt z (Solving rules (goal e (pick n F) b ∷ rest) u S) y
-      pick_halt h = halt_on pick_on h
+      pub pick_halt :
+          (i : Stop) → Settled w S a z (Err i) P y
+          → Halts z (Solving rules (goal e (pick n F) b ∷ rest) u S) i y
+      pick_halt i h = halts_on pick_on h
 
       pub pick_led :
           (v : ℕ)
-          → Settled w S a z (Some v) P y
+          → Settled w S a z (Ok v) P y
           → Took z (Leads rules (goal e (pick n F) b ∷ rest) u S (goal e F b ∷ rest) u P) y
       pick_led v k = took_map (λ t m u' o q. step_pick rules (subst (λ c. Settles S c t P v) is m) q)
           k.took
@@ -115,7 +120,7 @@ module _ (rules : List Rule) (e : List Argument) (b : Bool) (rest : List Waiting
     -- both sides, or branch 1
     pub sides_led :
         (c : Bool) (y : Way)
-        → Sided j p q b z (Some (Both c)) y
+        → Sided j (branch p q) b z (Ok (Both c)) y
         → Took z (Leads rules (goal e (join j p q F G) b ∷ rest) u S (goal e F c ∷ goal e G b ∷ rest) u S) y
     sides_led c y (inl h) =
         subst (λ r. Took z (Leads rules (goal e (join j p q F G) b ∷ rest) u S
@@ -134,7 +139,7 @@ module _ (rules : List Rule) (e : List Argument) (b : Bool) (rest : List Waiting
 
     module _ (h : b ≢ wants j) (y : Way) where
       pub left_led :
-          Chosen (branch p q) z (Some 0) y
+          Chosen (branch p q) z (Ok 0) y
           → Took z (Leads rules (goal e (join j p q F G) b ∷ rest) u S (goal e F b ∷ rest) u S) y
       left_led c = record {
         trace = took 0 (branch p q) ∷ [];
@@ -149,16 +154,21 @@ module _ (rules : List Rule) (e : List Argument) (b : Bool) (rest : List Waiting
           (k.0, (k.1, step_left rules h k.2))
 
       pub join_halt :
-          Chosen (branch p q) z None y
-          → Halt z (Solving rules (goal e (join j p q F G) b ∷ rest) u S) y
-      join_halt c = record {
-        before = [];
-        choice = branch p q;
-        after = some_left.0;
-        does = some_left.1;
-        guided = ap (λ q. q.guide) c.1;
-        stuck = c.0;
-        end = ap (λ q. q.trail) c.1;
+          (i : Stop)
+          → Chosen (branch p q) z (Err i) y
+          → Halts z (Solving rules (goal e (join j p q F G) b ∷ rest) u S) i y
+      join_halt i c = record {
+        is = c.0;
+        at =
+            record {
+              before = [];
+              choice = branch p q;
+              after = some_left.0;
+              does = some_left.1;
+              guided = ap (λ q. q.guide) c.2;
+              stuck = c.1;
+              end = ap (λ q. q.trail) c.2;
+            };
       }
 
     pub join_fits :
@@ -196,15 +206,16 @@ module _ (rules : List Rule) (e : List Argument) (b : Bool) (rest : List Waiting
 
     module _ (k : ℕ) (P : Marks) (y : Way) where
       pub call_halt :
-          Passed w e S ts k z None P y
-          → Halt z (Solving rules (goal e (call r ts) b ∷ rest) u S) y
-      call_halt h = halt_on (call_on u) h
+          (i : Stop)
+          → Passed w e S ts k z (Err i) P y
+          → Halts z (Solving rules (goal e (call r ts) b ∷ rest) u S) i y
+      call_halt i h = halts_on (call_on u) h
 
       pub call_led :
           (f : Frame) (F : Formula)
           → 0 < u
           → body rules r ≡ F
-          → Passed w e S ts k z (Some f) P y
+          → Passed w e S ts k z (Ok f) P y
           → Took z (Leads rules (goal e (call r ts) b ∷ rest) u S (goal (arguments_of f) F b ∷ rest) (u - 1)
           P) y
       call_led f F h is k =
@@ -216,7 +227,7 @@ module _ (rules : List Rule) (e : List Argument) (b : Bool) (rest : List Waiting
       pub call_spent :
           (f : Frame)
           → u ≡ 0
-          → Passed w e S ts k z (Some f) P y
+          → Passed w e S ts k z (Ok f) P y
           → Took z (λ v. Solves rules (goal e (call r ts) b ∷ rest) (live u S) v spent) y
       call_spent f h k = took_map (λ v m. subst (λ n. Solves rules (goal e (call r ts) b ∷ rest) (live n S) v
           spent) (sym h) (step_out rules m)) k.took

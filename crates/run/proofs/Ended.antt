@@ -1,5 +1,6 @@
 -- The ranges at the beginning of a run, and the fields at its end, one by one.
-use Rattle.std.proofs.Common.{◌≡◌, ℕ, zero, suc, ◌+◌, ◌<◌, Bool, true, false, ◌&&◌, List, [], ◌∷◌, ◌++◌, map, length, get_or, take, set, sym, refl, ap, ◌∙◌, subst, append_assoc, append-nil, arith}
+use Rattle.std.proofs.Common.{◌≡◌, ℕ, zero, suc, ◌+◌, ◌<◌, Bool, true, false, ◌&&◌, List, [], ◌∷◌, ◌++◌, map, length, get_or, take, sym, refl, ap, ◌∙◌, subst, append_assoc, append-nil, arith}
+use Rattle.std.proofs.lemmas.Bool.{and_parts}
 use mathlib.Core.Path.{fun_ext}
 use mathlib.Core.Bool.{and-true}
 use Rattle.marks.specs.Sets.{Marks}
@@ -14,7 +15,6 @@ use Rattle.sheet.specs.Table.{range_at}
 use Rattle.sheet.specs.Sheets.{range_of}
 use Rattle.meaning.specs.Reading.{ranged}
 use Rattle.meaning.specs.Runs.{inside}
-use Rattle.meaning.proofs.Basics.{and_left}
 use Rattle.run.specs.Answering.{Inside}
 use Rattle.meaning.specs.Traces.{Trace}
 use Rattle.marks.specs.Sets.{Empty}
@@ -23,16 +23,18 @@ use Rattle.meaning.specs.Runs.{Ends, ended, ends}
 use Rattle.meaning.proofs.Counting.{Counted, counted_part}
 use Rattle.meaning.proofs.Soundness.{settles_sound}
 use Rattle.meaning.proofs.Picks.{arg_alive, ends_told}
-use Rattle.run.specs.Ways.{Way, Took, Halt, Fits}
+use Rattle.run.specs.Ways.{Way, Took, Halts, Fits}
+use Rattle.run.specs.declared.stop.Stop.{Stop}
 use Rattle.run.specs.Settling.{Settling}
 use Rattle.run.specs.Works.{Ending, EndLeads}
-use Rattle.run.proofs.Ways.{took_map, took_none, took_join, halt_on, halt_after, fits_on, fits_after}
+use Rattle.run.proofs.Ways.{took_map, took_none, took_join, halts_on, halts_after, fits_on, fits_after}
 use Rattle.run.proofs.Comparing.{first, first_fair}
 
-pub take_push : (xs : List ℕ) (i v : ℕ) → i < length xs → take (suc i) (set xs i v) ≡ take i xs ++ v ∷ []
-take_push [] i a h = absurd (omega arith)
-take_push (x ∷ xs) zero a h = refl
-take_push (x ∷ xs) (suc i) a h = ap (λ q. x ∷ q) (take_push xs i a (omega arith))
+-- a mark has a number for each field
+pub ends_long :
+    {f c : ℕ} {S P : Marks} {t : Trace} {vs : List ℕ} → Ends f c S t P vs → length vs ≡ c
+ends_long ended = refl
+ends_long (ends m e) = ap suc (ends_long e)
 
 module _ (w : ℕ) (z : Way) (S₀ : Marks) where
   pub end_begun : (c : ℕ) → w ≡ c → Took z (EndLeads w S₀ 0 c S₀ []) z
@@ -63,10 +65,10 @@ module _ (w : ℕ) (z : Way) (S₀ : Marks) where
           (fits_after {N = Ending i (suc c) S} (λ t u m n. (n.0, vs ++ n.1, m u n.0 n.1 n.2)) led
           h)
 
-      pub end_halt : (y' : Way) → Halt y (Settling S (the_field i)) y' → Halt z (Ending 0 w S₀) y'
-      end_halt y' h = halt_after {N = Ending i (suc c) S}
+      pub end_halt : (s : Stop) (y' : Way) → Halts y (Settling S (the_field i)) s y' → Halts z (Ending 0 w S₀) s y'
+      end_halt s y' h = halts_after {N = Ending i (suc c) S}
           (λ t u m n. (n.0, vs ++ n.1, m u n.0 n.1 n.2)) led
-          (halt_on {N = Ending i (suc c) S} on h)
+          (halts_on {N = Ending i (suc c) S} on h)
 
   pub end_done :
       (S : Marks) (y : Way) (i : ℕ) (vs : List ℕ) → Took z (EndLeads w S₀ i 0 S vs) y
@@ -136,4 +138,4 @@ pub begin_none : (B : Marks) (rs : List Range) → B ≡ inside B (map range_of 
 begin_none B rs = fun_ext (λ m. sym (and-true (B m)))
 
 pub inside_part : (B : Marks) (rs : List RangeTree) → Inside (inside B rs) B
-inside_part B rs m h = and_left (B m) _ h
+inside_part B rs m h = (and_parts (B m) _ h).0

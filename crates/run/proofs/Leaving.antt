@@ -1,24 +1,26 @@
 -- Known and unknown fields, and what a comparison keeps.
-use Rattle.std.proofs.Common.{◌≡◌, ℕ, Bool, true, false, eqb, [], ◌∷◌, length, get_or, Some, None, Option, sym, refl, ap, ◌∙◌, subst, inl}
-use Rattle.std.specs.Option.{is_some}
-use Rattle.std.proofs.lemmas.Bool.{and_from, and_parts, eqb-true, eq-eqb, false≢true}
+use Rattle.std.proofs.Common.{◌≡◌, ℕ, true, false, eqb, [], ◌∷◌, length, get_or, Ok, Err, Result, sym, refl, ap, ◌∙◌, subst, inl}
+use Rattle.std.proofs.lemmas.Bool.{and_from, and_parts, eqb-true, eq-eqb}
 use Rattle.marks.specs.Sets.{Marks}
 use Rattle.marks.specs.Counted.{some}
 use Rattle.formula.specs.declared.Comparison.{Comparison}
 use Rattle.formula.specs.Comparing.{holds}
 use Rattle.meaning.specs.Traces.{Trace}
 use Rattle.marks.specs.Sets.{kept, Empty}
-use Rattle.meaning.specs.Matching.{the_field, the_number, Settles, number, known, chosen, Unknown, left_first, at_most_one, passing}
+use Rattle.meaning.specs.Matching.{the_field, the_number, Settles, number, known, chosen, Unknown, LeavesOne, left_first, at_most_one, passing}
 use Rattle.meaning.specs.Matching.{Argument}
 use Rattle.meaning.specs.Comparisons.{Is}
 use Rattle.formula.specs.Comparing.{mirrored}
-use Rattle.meaning.proofs.Values.{values_one, in_get_or, in_one}
+use Rattle.marks.proofs.Counted.{in_get_or}
+use Rattle.meaning.proofs.Values.{values_one, in_one}
 use Rattle.meaning.proofs.Comparisons.{comparings}
 use Rattle.run.specs.declared.goal.Argument.{Argument as Held}
-use Rattle.run.specs.Ways.{Way, Fits}
+use Rattle.run.specs.declared.stop.Stop.{Stop}
+use Rattle.run.specs.declared.stop.Stop.TheVariants.{DeadEnd, Spent, Halted}
+use Rattle.run.specs.Ways.{Way, Took, Fits}
 use Rattle.run.specs.Frames.{argument_of}
 use Rattle.run.specs.Settling.{Settled, Settling}
-use Rattle.run.specs.Comparing.{Knows, LeftOne, LeavingOne, Kept, Narrowed, KeptRight}
+use Rattle.run.specs.Comparing.{LeavingOne, Narrowed, Related}
 use Rattle.marks.specs.Sets.{MarksOf}
 use Rattle.marks.proofs.Counted.{none_empty}
 use Rattle.run.proofs.Ways.{took_map, took_none, halt_map}
@@ -39,77 +41,78 @@ settled_known {S = S} (chosen {f = f} {vs = vs} k V n l) =
           (q ∙ in_one v x i));
     }
 
--- an argument whose number was told is known, and one without is not
-pub known_if : (S : Marks) (a : Argument) (r : Option ℕ) → true ≡ is_some r → Knows S a r → (v : ℕ) × Knows S a (Some v)
-known_if S a (Some v) e k = (v, k)
-known_if S a None e k = absurd (false≢true (sym e))
+module _ (w : ℕ) (S : Marks) (a : Argument) (s : Comparison) (b : Argument) (z : Way) where
+  -- one side is a field that is kept
+  kept_by :
+      (Q P : Marks) (y : Way) (f : ℕ) (s' : Comparison) (n : ℕ) (r : Result Unit Stop)
+      → MarksOf w P
+      → Took z (λ t. LeavesOne S a b t Q) y
+      → Narrowed w Q f s' n r P
+      → passing Q s a b ≡ kept Q f s' n
+      → Related w S a s b z r P y
+  kept_by Q P y f s' n (Ok u) sh k h e = record { took = took_map (λ t m. (Q, m, h.is ∙ sym e)) k; alive = h.lives }
+  kept_by Q P y f s' n (Err DeadEnd) sh k h e =
+      took_map (λ t m. (Q, m, subst Empty (h.is ∙ sym e) (none_empty w P sh h.lives))) k
+  kept_by Q P y f s' n (Err Spent) sh k h e = absurd h.lives
+  kept_by Q P y f s' n (Err Halted) sh k h e = absurd h.lives
 
-pub unknown_if : (S : Marks) (a : Argument) (r : Option ℕ) → false ≡ is_some r → Knows S a r → Knows S a None
-unknown_if S a (Some v) e k = absurd (false≢true e)
-unknown_if S a None e k = k
-
-module _ (w : ℕ) (S : Marks) (z : Way) (alive : some w S ≡ true) where
-  pub leave_left : (a b : Argument) (v : ℕ) → Knows S a (Some v) → LeftOne w S a b z (Some tt) S z
-  leave_left a b v k = record {
-    took = took_none (at_most_one (λ p q. known_not S a v k.0 p));
-    apart = λ p
-        q. known_not S a v k.0 p;
-    alive = alive;
+  -- two known sides
+  pub both_pass :
+      (n m : ℕ) → Is S a n → Is S b m → true ≡ holds s n m → some w S ≡ true → Related w S a s b z (Ok tt) S z
+  both_pass n m p q h x = record {
+    took = took_none (S, at_most_one (λ u v. known_not S a n p u), sym ((comparings S s).two_pass a b n m p q (sym h)));
+    alive = x;
   }
 
-  pub leave_right : (a b : Argument) (v : ℕ) → Knows S b (Some v) → LeftOne w S a b z (Some tt) S z
-  leave_right a b v k = record {
-    took = took_none (at_most_one (λ p q. known_not S b v k.0 q));
-    apart = λ p
-        q. known_not S b v k.0 q;
-    alive = alive;
-  }
+  pub both_fail :
+      (n m : ℕ) → Is S a n → Is S b m → false ≡ holds s n m → Related w S a s b z (Err DeadEnd) S z
+  both_fail n m p q h = took_none
+      (S, at_most_one (λ u v. known_not S a n p u), (comparings S s).two_fail a b n m p q (sym h))
 
-  module _ (a : Held) (b : Argument) (p : Knows S (argument_of a) None) (q : Knows S b None) where
-    pub leave_first :
-        (v : ℕ) (P : Marks) (y : Way) → Settled w S a z (Some v) P y
-        → LeftOne w S (argument_of a) b z (Some tt) P y
-    leave_first v P y s = record {
-      took = took_map (λ t m. left_first p q m) s.took;
-      apart = λ u x.
-          known_not P (argument_of a) v (settled_known s.took.does) u;
-      alive = s.alive;
-    }
+  module _ (P : Marks) (sh : MarksOf w P) (f n : ℕ) (r : Result Unit Stop) where
+    -- the left is known
+    pub right_kept :
+        (s' : Comparison)
+        → Is S a n
+        → b ≡ the_field f
+        → s' ≡ mirrored s
+        → Narrowed w S f s' n r P
+        → Related w S a s b z r P z
+    right_kept s' p q e h =
+        kept_by S P z f s' n r sh (took_none (at_most_one (λ u v. known_not S a n p u))) h
+        (subst (λ c. passing S s a c ≡ kept S f s' n) (sym q)
+        (subst (λ c. passing S s a (the_field f) ≡ kept S f c n) (sym e) ((comparings S s).right_field a f n p)))
 
-    pub leave_halt :
-        (P : Marks) (y : Way) → Settled w S a z None P y → LeftOne w S (argument_of a) b z None P y
-    leave_halt P y h = halt_map (λ t m. (m.0, left_first p q m.2)) h
+    -- the right is known
+    pub left_kept :
+        a ≡ the_field f → Is S b n → Narrowed w S f s n r P → Related w S a s b z r P z
+    left_kept q p h =
+        kept_by S P z f s n r sh (took_none (at_most_one (λ u v. known_not S b n p v))) h
+        (subst (λ c. passing S s c b ≡ kept S f s n) (sym q) ((comparings S s).left_field f b n p))
 
-    pub leave_fits : Fits z (LeavingOne S (argument_of a) b) → Fits z (Settling S (argument_of a))
-    leave_fits h = record { room = λ t m. h.room t (m.0, left_first p q m.2) }
+-- of two unknown fields the left is settled
+module _ (w : ℕ) (S : Marks) (z : Way) (a : Held) (s : Comparison) (b : Argument)
+    (p : Unknown S (argument_of a)) (q : Unknown S b) where
+  pub settled_kept :
+      (Q P : Marks) (y : Way) (f v : ℕ) (s' : Comparison) (r : Result Unit Stop)
+      → MarksOf w P
+      → Settled w S a z (Ok v) Q y
+      → b ≡ the_field f
+      → s' ≡ mirrored s
+      → Narrowed w Q f s' v r P
+      → Related w S (argument_of a) s b z r P y
+  settled_kept Q P y f v s' r sh k is e h =
+      let known = settled_known k.took.does in
+      kept_by w S (argument_of a) s b z Q P y f s' v r sh (took_map (λ t m. left_first p q m) k.took) h
+      (subst (λ c. passing Q s (argument_of a) c ≡ kept Q f s' v) (sym is)
+      (subst (λ c. passing Q s (argument_of a) (the_field f) ≡ kept Q f c v) (sym e)
+      ((comparings Q s).right_field (argument_of a) f v known)))
 
--- a comparison is a keep
-pub narrowed_kept :
-    (w : ℕ) (S P : Marks) (s s' : Comparison) (a b : Argument) (f n : ℕ) (r : Bool)
-    → MarksOf w P
-    → Narrowed w S f s' n r P
-    → passing S s a b ≡ kept S f s' n
-    → Kept w S s a b r P
-narrowed_kept w S P s s' a b f n true sh h e = (h.is ∙ sym e, sym h.tells)
-narrowed_kept w S P s s' a b f n false sh h e = subst Empty (h.is ∙ sym e)
-    (none_empty w P sh (sym h.tells))
+  pub settled_halt :
+      (i : Stop) (P : Marks) (y : Way) → Settled w S a z (Err i) P y
+      → Related w S (argument_of a) s b z (Err i) P y
+  settled_halt i P y h = subst (λ k. Related w S (argument_of a) s b z (Err k) P y) (sym h.is)
+      (halt_map (λ t m. (m.0, left_first p q m.2)) h.at)
 
-module _ (w : ℕ) (S P : Marks) (s : Comparison) (r : Bool) (sh : MarksOf w P) where
-  pub left_kept :
-      (f : ℕ) (b : Argument) (v : ℕ) → Is S b v → Narrowed w S f s v r P → Kept w S s (the_field f) b r P
-  left_kept f b v q h = narrowed_kept w S P s s (the_field f) b f v r sh h
-      ((comparings S s).left_field f b v q)
-
-  pub right_kept :
-      (g n : ℕ) (s' : Comparison) → s' ≡ mirrored s → Narrowed w S g s' n r P
-      → KeptRight w S s n (the_field g) r P
-  right_kept g n s' e h a p = narrowed_kept w S P s (mirrored s) a (the_field g) g n r sh
-      (subst (λ q. Narrowed w S g q n r P) e h) ((comparings S s).right_field a g n p)
-
-pub test_kept :
-    (w : ℕ) (S : Marks) (s : Comparison) (n m : ℕ) (r : Bool)
-    → some w S ≡ true
-    → r ≡ holds s n m
-    → KeptRight w S s n (the_number m) r S
-test_kept w S s n m true l h a p = (sym ((comparings S s).two_pass a (the_number m) n m p refl (sym h)), l)
-test_kept w S s n m false l h a p = (comparings S s).two_fail a (the_number m) n m p refl (sym h)
+  pub settle_fits : Fits z (LeavingOne S (argument_of a) b) → Fits z (Settling S (argument_of a))
+  settle_fits h = record { room = λ t m. h.room t (m.0, left_first p q m.2) }

@@ -12,15 +12,16 @@ use Rattle.meaning.proofs.Picks.{passes_told}
 use native.Mathlib.Decide.{ℕ_discrete}
 use Rattle.run.specs.declared.goal.Argument.{Argument as Held}
 use Rattle.run.specs.declared.goal.Argument.TheVariants.{Field, Number as ANumber}
-use Rattle.sheet.specs.declared.node.Term.{Term}
-use Rattle.sheet.specs.declared.node.Term.TheVariants.{Number}
+use Rattle.sheet.specs.Table.{SheetTerm as Term}
+use Rattle.formula.specs.declared.term.Term.TheVariants.{Number}
 use Rattle.run.specs.declared.goal.Frame.{Frame}
 use Rattle.sheet.specs.Table.{term_of}
 use Rattle.run.specs.Frames.{argument_of, arguments_of, Okay}
-use Rattle.run.specs.Ways.{Way, Took, Halt, Fits}
+use Rattle.run.specs.declared.stop.Stop.{Stop}
+use Rattle.run.specs.Ways.{Way, Took, Halts, Fits}
 use Rattle.run.specs.Comparing.{Resolving}
 use Rattle.run.specs.Goals.{from, Passing, PassLeads}
-use Rattle.run.proofs.Ways.{took_map, took_none, took_join, halt_on, halt_after, fits_on, fits_after}
+use Rattle.run.proofs.Ways.{took_map, took_none, took_join, halts_on, halts_after, fits_on, fits_after}
 use Rattle.run.proofs.Comparing.{first, first_fair, resolves_alive}
 
 from_tail : (x : Term) (ts : List Term) (i k : ℕ) → from (x ∷ ts) (suc i) k ≡ from ts i k
@@ -74,10 +75,10 @@ module _ (e : List Argument) (w : ℕ) (z : Way) (S₀ : Marks) (ts₀ : List Te
           (fits_after {N = Passing e S (x ∷ us)} (λ t u m n.
           (n.0, arguments_of f ++ n.1, m u n.0 n.1 n.2)) led h)
 
-      pub pass_halt : (y' : Way) → Halt y (Resolving e S x) y' → Halt z (Passing e S₀ ts₀) y'
-      pass_halt y' h = halt_after {N = Passing e S (x ∷ us)}
+      pub pass_halt : (s : Stop) (y' : Way) → Halts y (Resolving e S x) s y' → Halts z (Passing e S₀ ts₀) s y'
+      pass_halt s y' h = halts_after {N = Passing e S (x ∷ us)}
           (λ t u m n. (n.0, arguments_of f ++ n.1, m u n.0 n.1 n.2)) led
-          (halt_on {N = Passing e S (x ∷ us)} on h)
+          (halts_on {N = Passing e S (x ∷ us)} on h)
 
   pub pass_done :
       (S : Marks) (y : Way) (f : Frame)

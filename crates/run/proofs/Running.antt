@@ -1,6 +1,7 @@
 -- A whole run, from its beginning, its match and its end.
-use Rattle.std.proofs.Common.{◌≡◌, ℕ, ◌+◌, ◌*◌, ◌≤◌, true, List, [], ◌++◌, length, take, Some, None, Err, Option, Result, sym, subst, append-nil, arith}
-use Rattle.std.specs.Option.{ok_or}
+use Rattle.std.proofs.Common.{◌≡◌, ℕ, ◌+◌, ◌*◌, ◌≤◌, true, List, [], ◌++◌, length, Ok, Err, Result, sym, subst, append-nil, arith}
+use Rattle.arrayvec.specs.ArrayVec.{ArrayVec}
+use Rattle.std.proofs.lemmas.Bool.{and_parts}
 use Rattle.formula.specs.Trees.{Sheet}
 use Rattle.marks.specs.Sets.{Marks, MarksOf, Empty}
 use Rattle.meaning.specs.Terms.{ranges_of, fields_of, rules_of, mark_line}
@@ -8,7 +9,6 @@ use Rattle.meaning.specs.Traces.{Trace}
 use Rattle.meaning.specs.Lengths.{FewJoins}
 use Rattle.meaning.specs.Matching.{live, dead, spent, some_left, none_left, Matches, stays_dead}
 use Rattle.meaning.specs.Runs.{mark, dead_end, spent_run, Ends, whole, at_dead, at_spent, inside, Run, runs}
-use Rattle.meaning.proofs.Basics.{and_left}
 use Rattle.meaning.proofs.Counting.{Counted, counted, counted_part}
 use Rattle.meaning.proofs.Lengths.{lengths}
 use Rattle.meaning.proofs.Soundness.{sound as matched_sound}
@@ -17,14 +17,18 @@ use Rattle.meaning.proofs.Picks.{finishes_told}
 use Rattle.run.specs.declared.stop.Stop.{Stop}
 use Rattle.run.specs.declared.stop.Stop.TheVariants.{DeadEnd, Spent, Halted}
 use Rattle.run.specs.Ways.{Way, Took, Halt, Fits}
+use Rattle.marks.proofs.Counted.{none_empty}
+use Rattle.run.specs.Comparing.{Lives}
 use Rattle.run.specs.Works.{Matching, Worked, Ending, Finished}
 use Rattle.run.specs.Whole.{Running, Along}
 use Rattle.run.proofs.Ways.{took_map, took_none, took_join, halt_on, halt_after, fits_on, fits_after}
 use Rattle.run.proofs.Comparing.{first, first_fair}
+use Rattle.run.proofs.Ended.{ends_long}
+use Rattle.std.specs.Result.{IfOk}
 
 pub inside_counted : (s : Sheet) (S : Marks) → MarksOf (fields_of s) S → Counted (inside S (ranges_of s))
 inside_counted s S B = counted_part S (inside S (ranges_of s)) (counted (fields_of s) S B)
-    (λ m h. and_left (S m) _ h)
+    (λ m h. (and_parts (S m) _ h).0)
 
 module _ (s : Sheet) (fuel : ℕ) (S : Marks) (B : MarksOf (fields_of s) S) where
   pub run_fits :
@@ -43,6 +47,18 @@ module _ (s : Sheet) (fuel : ℕ) (S : Marks) (B : MarksOf (fields_of s) S) wher
 
   pub dead_at_once : (z : Way) → Empty (inside S (ranges_of s)) → Took z (λ v. Run s fuel S v dead_end) z
   dead_at_once z e = took_none (runs (none_left e) stays_dead at_dead)
+
+  -- no mark is in the ranges
+  pub ends_at_once :
+      (w : ℕ) (z : Way) (e : Stop) (a : Result (ArrayVec ℕ) Stop)
+      → a ≡ Err e
+      → MarksOf w (inside S (ranges_of s))
+      → Lives w (inside S (ranges_of s)) (Err e)
+      → Along s fuel S z a z
+  ends_at_once w z DeadEnd a is sh h = subst (λ q. Along s fuel S z q z) (sym is)
+      (dead_at_once z (none_empty w (inside S (ranges_of s)) sh h))
+  ends_at_once w z Spent a is sh h = absurd h
+  ends_at_once w z Halted a is sh h = absurd h
 
   module _ (C : Counted (inside S (ranges_of s))) (alive : Empty (inside S (ranges_of s)) → ⊥) (z : Way) where
     abbrev pub matches : Trace → Type 0
@@ -79,7 +95,7 @@ module _ (s : Sheet) (fuel : ℕ) (S : Marks) (B : MarksOf (fields_of s) S) wher
 
     -- the match stops, and the run with it
     pub match_stops :
-        (w : ℕ) (P : Marks) (y : Way) (e : Stop) (a : Result (List ℕ) Stop)
+        (w : ℕ) (P : Marks) (y : Way) (e : Stop) (a : Result (ArrayVec ℕ) Stop)
         → a ≡ Err e
         → Worked w (rules_of s) (mark_line s) fuel (inside S (ranges_of s)) z (Err e) P y
         → Along s fuel S z a y
@@ -106,10 +122,16 @@ module _ (s : Sheet) (fuel : ℕ) (S : Marks) (B : MarksOf (fields_of s) S) wher
 
         -- the fields are settled, or the run halted there
         pub ends_as :
-            (Q : Marks) (y' : Way) (o : Option (List ℕ)) (a : Result (List ℕ) Stop)
-            → a ≡ ok_or o Halted
+            (Q : Marks) (y' : Way) (o : Result (ArrayVec ℕ) Stop)
             → Finished (fields_of s) P y o Q y'
-            → Along s fuel S z a y'
-        ends_as Q y' None a is h = subst (λ q. Along s fuel S z q y') (sym is) (end_halt y' h)
-        ends_as Q y' (Some vs) a is h = subst (λ q. Along s fuel S z q y') (sym is)
-            (end_mark (take (fields_of s) vs) Q y' h)
+            → Along s fuel S z o y'
+        ends_as Q y' (Ok vs) h = end_mark vs.items Q y' h
+        ends_as Q y' (Err e) h = subst (λ q. Along s fuel S z (Err q) y') (sym h.is) (end_halt y' h.at)
+
+-- the numbers are as many as the fields
+pub finished_long :
+    (w : ℕ) (S : Marks) (z : Way) (o : Result (ArrayVec ℕ) Stop) (P : Marks) (y : Way)
+    → Finished w S z o P y
+    → IfOk o (λ m. length m.items ≡ w)
+finished_long w S z (Ok vs) P y h = ends_long h.does
+finished_long w S z (Err e) P y h = tt

@@ -1,5 +1,5 @@
 -- Settling, from a store's answers.
-use Rattle.std.proofs.Common.{◌≡◌, ℕ, ◌<◌, true, ◌≢◌, List, [], ◌∷◌, length, get_or, Some, None, Ok, Err, Option, Result, sym, refl, ap, ◌∙◌, subst, arith}
+use Rattle.std.proofs.Common.{◌≡◌, ℕ, ◌<◌, true, ◌≢◌, List, [], ◌∷◌, length, get_or, Some, Ok, Err, Result, sym, refl, ap, ◌∙◌, subst, arith}
 use Rattle.std.proofs.lemmas.Bool.{and_from, and_parts, eq-eqb}
 use Rattle.formula.specs.Comparing.{holds}
 use Rattle.run.specs.Answering.{Inside}
@@ -11,9 +11,13 @@ use Rattle.formula.specs.declared.Comparison.{Comparison}
 use Rattle.refusal.specs.declared.Refusal.{Refusal}
 use Rattle.store.specs.Rules.{Picks, Keeps}
 use Rattle.meaning.specs.Traces.{took, among}
-use Rattle.meaning.specs.Matching.{the_field, number, known, chosen, Unknown}
-use Rattle.meaning.proofs.Values.{in_get_or}
-use Rattle.run.specs.declared.goal.Argument.TheVariants.{Field, Number}
+use Rattle.meaning.specs.Matching.{Argument, the_field, the_number, number, known, chosen, Settles, Unknown}
+use Rattle.meaning.specs.Comparisons.{Is}
+use Rattle.marks.proofs.Counted.{in_get_or}
+use Rattle.run.specs.declared.argument.Unsettled.{Unsettled}
+use Rattle.run.specs.declared.goal.Argument.{Argument as Held}
+use Rattle.run.specs.Frames.{argument_of}
+use Rattle.run.specs.declared.stop.Stop.{Stop}
 use Rattle.run.specs.Ways.{Way, Chosen, Room, Fits}
 use Rattle.run.specs.Comparing.{Knows}
 use Rattle.run.specs.Settling.{Narrows, Settled, Settling, KeepsValue}
@@ -40,9 +44,19 @@ keeps_kept n S P f c k (Err e) h l m = absurd (h.0 (l, omega arith))
 pub kept_inside : (S P : Marks) (f : ℕ) (c : Comparison) (k : ℕ) → P ≡ kept S f c k → Inside P S
 kept_inside S P f c k e m h = (and_parts (S m) (holds c (get_or m f 0) k) (subst (λ Q. Q m ≡ true) e h)).0
 
-pub number_done :
-    (w : ℕ) (S : Marks) (n : ℕ) (z : Way) → n < 1024 → some w S ≡ true → Settled w S (Number n) z (Some n) S z
-number_done w S n z h x = record { took = took_none number; small = h; alive = x }
+settles_known : (S : Marks) (a : Argument) (v : ℕ) → Is S a v → Settles S a [] S v
+settles_known S (the_number n) v h = subst (Settles S (the_number n) [] S) h number
+settles_known S (the_field f) v h = known h
+
+-- what is known needs no settling
+pub known_done :
+    (w : ℕ) (S : Marks) (a : Held) (v : ℕ) (z : Way) → Knows w S (argument_of a) (Ok v) → some w S ≡ true
+    → Settled w S a z (Ok v) S z
+known_done w S a v z h x = record {
+  took = took_none (settles_known S (argument_of a) v h.0);
+  small = h.1;
+  alive = x;
+}
 
 pub one_of : (vs : List ℕ) → length vs ≡ 1 → vs ≡ get_or vs 0 0 ∷ []
 one_of [] h = absurd (omega arith)
@@ -65,22 +79,7 @@ module _ (w : ℕ) (S : Marks) (f : ℕ) (sh : MarksOf w S) (inside : f < w) whe
       go [] v i = absurd i
       go (x ∷ vs) v i = omega arith
 
-  pub knows_not : length (values w S f) ≢ 1 → Unknown S (the_field f)
-  knows_not h = (values w S f, values_hold, h)
-
   module _ (z : Way) (x : some w S ≡ true) where
-    pub known_done :
-        (r : Option ℕ) → length (values w S f) ≡ 1 → Picks (values w S f) 0 r → Settled w S (Field f) z r S z
-    known_done None one p = absurd (omega arith)
-    known_done (Some v) one p =
-        let xs = values w S f in
-        subst (λ q. Settled w S (Field f) z (Some q) S z) (sym p.1)
-        (record {
-          took = took_none (known (subst (Values S f) (one_of xs one) values_hold));
-          small = value_small w S f 0 p.0;
-          alive = x;
-        })
-
     -- a number of the field is kept, and marks are left
     pub keeps_some :
         (k : ℕ)
@@ -91,54 +90,75 @@ module _ (w : ℕ) (S : Marks) (f : ℕ) (sh : MarksOf w S) (inside : f < w) whe
         let r = takes_sound w S f v (value_taken w S f v (in_get_or (values w S f) k l)).2 in
         some_complete w (kept S f Equal v) r.0 r.1 (and_from _ _ r.2 (eq-eqb _ _ r.3))
 
-    module _ (y : Way) (wide : length (values w S f) ≢ 1) where
+    module _ (a : Held) (is : argument_of a ≡ the_field f) (y : Way) (wide : length (values w S f) ≢ 1) where
+      chooses : (k : ℕ) → k < length (values w S f) → (P : Marks) (v : ℕ)
+          → P ≡ kept S f Equal (get_or (values w S f) k 0) → v ≡ get_or (values w S f) k 0
+          → Settles S (argument_of a) (took k (among (length (values w S f))) ∷ []) P v
+      chooses k l P v p q =
+          subst (λ b. Settles S b (took k (among (length (values w S f))) ∷ []) P v) (sym is)
+          (subst (λ Q. Settles S (the_field f) (took k (among (length (values w S f))) ∷ []) Q v) (sym p)
+          (subst (Settles S (the_field f) (took k (among (length (values w S f))) ∷ [])
+          (kept S f Equal (get_or (values w S f) k 0))) (sym q) (chosen k values_hold wide l)))
+
       pub chosen_done :
-          (k : ℕ) (r : Option ℕ) (P : Marks)
-          → Chosen (among (length (values w S f))) z (Some k) y
-          → KeepsValue w S f k r P
-          → Settled w S (Field f) z r P y
-      chosen_done k None P c p = absurd p
-      chosen_done k (Some v) P c p =
+          (k v : ℕ) (P : Marks)
+          → Chosen (among (length (values w S f))) z (Ok k) y
+          → KeepsValue w S f k v P
+          → Settled w S a z (Ok v) P y
+      chosen_done k v P c p =
           let xs = values w S f in
-          subst (λ q. Settled w S (Field f) z (Some q) P y) (sym p.0)
-          (subst (λ Q. Settled w S (Field f) z (Some (get_or xs k 0)) Q y)
-          (sym (p.1 ∙ ap (kept S f Equal) p.0))
-          (record {
+          let left : P ≡ kept S f Equal (get_or xs k 0) = p.1 ∙ ap (kept S f Equal) p.0 in
+          record {
             took =
                 record {
                   trace = took k (among (length xs)) ∷ [];
-                  does = chosen k values_hold wide c.0;
+                  does = chooses k c.0 P v left p.0;
                   guided = (y.guide, c.1, refl);
                   end = c.2;
                 };
-            small = value_small w S f k c.0;
-            alive = keeps_some k c.0;
-          }))
-
-      pub chosen_halted :
-          (P : Marks)
-          → Chosen (among (length (values w S f))) z None y
-          → Settled w S (Field f) z None P y
-      chosen_halted P c =
-          record {
-            before = [];
-            choice = among (length (values w S f));
-            after = [];
-            does = (_, _, chosen 0 values_hold wide (some_values x));
-            guided = ap (λ q. q.guide) c.1;
-            stuck = c.0;
-            end = ap (λ q. q.trail) c.1;
+            small = subst (λ q. q < 1024) (sym p.0) (value_small w S f k c.0);
+            alive = subst (λ Q. some w Q ≡ true) (sym left) (keeps_some k c.0);
           }
 
-    pub one_fits : length (values w S f) ≢ 1 → Fits z (Settling S (the_field f)) → Room 1 z.trail
-    one_fits wide fits = fits.room (took 0 (among (length (values w S f))) ∷ [])
-        (_, _, chosen 0 values_hold wide (some_values x))
+      pub chosen_halted :
+          (s : Stop) (P : Marks)
+          → Chosen (among (length (values w S f))) z (Err s) y
+          → Settled w S a z (Err s) P y
+      chosen_halted s P c =
+          record {
+            is = c.0;
+            at =
+                record {
+                  before = [];
+                  choice = among (length (values w S f));
+                  after = [];
+                  does = (_, _, chooses 0 (some_values x) _ _ refl refl);
+                  guided = ap (λ q. q.guide) c.2;
+                  stuck = c.1;
+                  end = ap (λ q. q.trail) c.2;
+                };
+          }
+
+      pub one_fits : Fits z (Settling S (argument_of a)) → Room 1 z.trail
+      one_fits fits = fits.room (took 0 (among (length (values w S f))) ∷ [])
+          (_, _, chooses 0 (some_values x) _ _ refl refl)
 
 module _ (w : ℕ) (S : Marks) (f : ℕ) (sh : MarksOf w S) (inside : f < w) where
   pub knows_one :
-      (r : Option ℕ) → length (values w S f) ≡ 1 → Picks (values w S f) 0 r → Knows S (the_field f) r
-  knows_one None one p = absurd (omega arith)
-  knows_one (Some v) one p =
+      (v : ℕ)
+      → length (values w S f) ≡ 1
+      → Picks (values w S f) 0 (Some v)
+      → Knows w S (the_field f) (Ok v)
+  knows_one v one p =
       let xs = values w S f in
-      subst (λ q. Knows S (the_field f) (Some q)) (sym p.1)
+      subst (λ q. Knows w S (the_field f) (Ok q)) (sym p.1)
       (subst (Values S f) (one_of xs one) (values_hold w S f sh inside), value_small w S f 0 p.0)
+
+-- what is not known is an unknown field
+pub knows_not :
+    (w : ℕ) (S : Marks) (sh : MarksOf w S) (a : Argument) (u : Unsettled)
+    → Knows w S a (Err u)
+    → Unknown S a
+knows_not w S sh a u h =
+    subst (Unknown S) (sym h.0)
+    (values w S u.field, values_hold w S u.field sh h.1, (λ e. h.3 (h.2 ∙ e)))

@@ -8,10 +8,10 @@ use Rattle.meaning.specs.Terms.{rules_of, ranges_of, fields_of, mark_line, body,
 use Rattle.meaning.specs.Lengths.{joins, FewJoins}
 use Rattle.sheet.specs.declared.node.Name.{Name}
 use Rattle.sheet.specs.declared.node.Name.TheVariants.{Field, Param}
-use Rattle.sheet.specs.declared.node.Shift.{Shift}
-use Rattle.sheet.specs.declared.node.Shift.TheVariants.{Up, Down}
-use Rattle.sheet.specs.declared.node.Term.{Term}
-use Rattle.sheet.specs.declared.node.Term.TheVariants.{Number, Bare, Moved}
+use Rattle.formula.specs.declared.term.Shift.{Shift}
+use Rattle.formula.specs.declared.term.Shift.TheVariants.{Up, Down}
+use Rattle.sheet.specs.Table.{SheetTerm as Term}
+use Rattle.formula.specs.declared.term.Term.TheVariants.{Number, Bare, Moved}
 use Rattle.sheet.specs.declared.node.Node.{Node}
 use Rattle.sheet.specs.declared.node.Node.TheVariants.{Compare, Call, Not, Pick, Join}
 use Rattle.sheet.specs.declared.node.Line.{Line}

@@ -1,18 +1,19 @@
 -- One turn of the loop, from the entry of the goal that it takes off the stack.
-use Rattle.std.proofs.Common.{◌≡◌, ℕ, ◌+◌, ◌-◌, ◌<◌, Bool, true, false, not, ◌≢◌, List, map, length, take, set, Some, None, Ok, Err, Option, Result, sym, refl, ap, ◌∙◌, subst, arith, length-set}
+use Rattle.std.proofs.Common.{◌≡◌, ℕ, ◌+◌, ◌-◌, ◌<◌, Bool, true, not, ◌≢◌, List, map, length, take, set, Ok, Err, Result, sym, refl, ap, ◌∙◌, subst, arith, length-set}
 use Rattle.formula.specs.Trees.{Rule, Formula}
 use Rattle.formula.specs.declared.Comparison.{Comparison}
 use Rattle.formula.specs.declared.Join.{Join as JoinWord}
 use Rattle.marks.specs.Sets.{Marks, MarksOf, Empty}
 use Rattle.marks.specs.Counted.{some}
-use Rattle.meaning.specs.Terms.{rules_of, wants}
+use Rattle.meaning.specs.Terms.{rules_of, wants, aimed}
+use Rattle.meaning.specs.Traces.{branch}
 use Rattle.meaning.specs.Matching.{live, dead, spent, Argument}
 use Rattle.meaning.specs.Pending.{Solves}
 use Rattle.meaning.specs.Pending.{Goal as Waiting}
 use Rattle.meaning.proofs.Counting.{Counted, counted}
 use Rattle.sheet.specs.declared.node.Name.{Name}
 use Rattle.sheet.specs.declared.node.Node.TheVariants.{Not, Compare, Pick, Join, Call}
-use Rattle.sheet.specs.declared.node.Term.{Term}
+use Rattle.sheet.specs.Table.{SheetTerm as Term}
 use Rattle.sheet.specs.declared.table.Sheet.{Sheet}
 use Rattle.sheet.specs.Table.{name_of, node_at, term_of, line_at, formula_at, whole}
 use Rattle.sheet.specs.Sheets.{tree_of, lines_in}
@@ -21,11 +22,11 @@ use Rattle.run.specs.declared.goal.Goal.{Goal}
 use Rattle.run.specs.declared.goal.Frame.{Frame}
 use Rattle.run.specs.declared.stack.Depth.{Depth}
 use Rattle.run.specs.declared.stop.Stop.{Stop}
-use Rattle.run.specs.declared.stop.Stop.TheVariants.{Spent, Halted}
+use Rattle.run.specs.declared.stop.Stop.TheVariants.{DeadEnd, Spent, Halted}
 use Rattle.run.specs.declared.turn.Sides.{Sides}
 use Rattle.run.specs.declared.turn.Sides.TheVariants.{Left, Both}
 use Rattle.run.specs.Frames.{argument_of, Stands, Okay, KnownIn}
-use Rattle.run.specs.Ways.{Way, Took, Halt, Fits, Room}
+use Rattle.run.specs.Ways.{Way, Took, Halt, Halts, Fits, Room}
 use Rattle.run.specs.Settling.{Settled, Settling}
 use Rattle.run.specs.Comparing.{Compared, Comparing}
 use Rattle.run.specs.Goals.{Fit, Spot, spot, pending, Passing, Passed, Solving, Moves, Turned, Sided, Entered}
@@ -65,12 +66,13 @@ module _ (sh : Sheet) (w : ℕ) (wide : w ≡ length sh.ranges.items) (gs : List
   x : Empty S → ⊥
   x = some_alive w S lives
 
+  -- a part of the turn halted
   halted :
-      (P : Marks) (y : Way) (q : Spot) (r : Result Unit Stop)
-      → r ≡ Err Halted
-      → Halt z (Solving rules all u S) y
+      (P : Marks) (y : Way) (q : Spot) (i : Stop) (r : Result Unit Stop)
+      → r ≡ Err i
+      → Halts z (Solving rules all u S) i y
       → Turned sh all u S z r q P y
-  halted P y q r is h = subst (λ o. Turned sh all u S z o q P y) (sym is) h
+  halted P y q i r is h = subst (λ o. Turned sh all u S z o q P y) (sym (is ∙ ap Err h.is)) h.at
 
   module _ (k : ℕ) (at : node_at sh.nodes t.formula ≡ Not k) where
     pub not_done :
@@ -86,43 +88,29 @@ module _ (sh : Sheet) (w : ℕ) (wide : w ≡ length sh.ranges.items) (gs : List
         (omega arith) (omega arith) eg ef ed (negate_led rules e b below u S C x w z (part k))
 
   module _ (l : Term) (i : Comparison) (r : Term) (at : node_at sh.nodes t.formula ≡ Compare l i r) where
-    pub compare_room : Fits z (Solving rules all u S) → Fits z (Comparing e (term_of l) i (term_of r) b S)
+    pub compare_room :
+        Fits z (Solving rules all u S)
+        → Fits z (Comparing e (term_of l) (aimed b i) (term_of r) S)
     compare_room room =
         compare_fits rules e b below u S C x w z (term_of l) i (term_of r)
         (subst (λ q. Fits z (Solving rules q u S)) (opened sh w wide gs fs n f u fit more (Compare l i r) at) room)
 
-    pub compare_halted :
-        (P : Marks) (y : Way) (q : Spot) (o : Option Bool) (a : Result Unit Stop)
-        → o ≡ None
-        → a ≡ Err Halted
-        → Compared w e (term_of l) i (term_of r) b S z o P y
-        → Turned sh all u S z a q P y
-    compare_halted P y q o a none is h = halted P y q a is
-        (subst (λ v. Halt z (Solving rules v u S) y) (sym (opened sh w wide gs fs n f u fit more (Compare l i r) at))
-        (compare_halt rules e b below u S C x w z (term_of l) i (term_of r) P y
-        (subst (λ v. Compared w e (term_of l) i (term_of r) b S z v P y) none h)))
-
-    pub compare_lives :
-        (P : Marks) (y : Way) (o : Option Bool)
-        → o ≡ Some true
-        → Compared w e (term_of l) i (term_of r) b S z o P y
-        → Moves sh all u S z (spot gs fs (depth (n - 1) f u)) P y
-    compare_lives P y o told h =
-        let k = subst (λ v. Compared w e (term_of l) i (term_of r) b S z v P y) told h in
+    pub compare_done :
+        (P : Marks) (y : Way) (o : Result Unit Stop)
+        → Compared w e (term_of l) (aimed b i) (term_of r) S z o P y
+        → Turned sh all u S z o (spot gs fs (depth (n - 1) f u)) P y
+    compare_done P y (Ok d) k =
         none_put sh w wide gs fs n f u fit more S P z y k.alive (whole part (Compare l i r)) b
         (opened sh w wide gs fs n f u fit more (Compare l i r) at)
         (compare_led rules e b below u S C x w z (term_of l) i (term_of r) P y k) (omega arith)
-
-    pub compare_ends :
-        (P : Marks) (y : Way) (o : Option Bool)
-        → o ≡ Some false
-        → Compared w e (term_of l) i (term_of r) b S z o P y
-        → Took z (λ v. Solves rules all (live u S) v dead) y
-    compare_ends P y o told h =
-        let k = subst (λ v. Compared w e (term_of l) i (term_of r) b S z v P y) told h in
+    compare_done P y (Err DeadEnd) k =
         subst (λ q. Took z (λ v. Solves rules q (live u S) v dead) y)
         (sym (opened sh w wide gs fs n f u fit more (Compare l i r) at))
         (compare_dead rules e b below u S C x w z (term_of l) i (term_of r) P y k)
+    compare_done P y (Err Spent) k = absurd k
+    compare_done P y (Err Halted) k =
+        subst (λ v. Halt z (Solving rules v u S) y) (sym (opened sh w wide gs fs n f u fit more (Compare l i r) at))
+        (compare_halt rules e b below u S C x w z (term_of l) i (term_of r) P y k)
 
   module _ (a : Name) (k : ℕ) (at : node_at sh.nodes t.formula ≡ Pick a k) where
     pub pick_known : KnownIn (framed sh w wide gs fs n f u fit more).count a
@@ -140,26 +128,22 @@ module _ (sh : Sheet) (w : ℕ) (wide : w ≡ length sh.ranges.items) (gs : List
           (subst (λ q. Fits z (Solving rules q u S)) (opened sh w wide gs fs n f u fit more (Pick a k) at) room)
 
       pub pick_halted :
-          (P : Marks) (y : Way) (q : Spot) (o : Option ℕ) (r : Result Unit Stop)
-          → o ≡ None
-          → r ≡ Err Halted
-          → Settled w S h z o P y
+          (P : Marks) (y : Way) (q : Spot) (i : Stop) (r : Result Unit Stop)
+          → r ≡ Err i
+          → Settled w S h z (Err i) P y
           → Turned sh all u S z r q P y
-      pick_halted P y q o r none is m = halted P y q r is
-          (subst (λ v. Halt z (Solving rules v u S) y) (sym (opened sh w wide gs fs n f u fit more (Pick a k) at))
-          (pick_halt rules e b below u S C x w z (name_of a) (part k) h stands.is P y
-          (subst (λ v. Settled w S h z v P y) none m)))
+      pick_halted P y q i r is m = halted P y q i r is
+          (subst (λ v. Halts z (Solving rules v u S) i y) (sym (opened sh w wide gs fs n f u fit more (Pick a k) at))
+          (pick_halt rules e b below u S C x w z (name_of a) (part k) h stands.is P y i m))
 
       pub pick_done :
-          (P : Marks) (y : Way) (o : Option ℕ) (v : ℕ) (gs' : List Goal) (fs' : List Frame) (D : Depth)
-          → o ≡ Some v
-          → Settled w S h z o P y
+          (P : Marks) (y : Way) (v : ℕ) (gs' : List Goal) (fs' : List Frame) (D : Depth)
+          → Settled w S h z (Ok v) P y
           → gs' ≡ set gs (n - 1) (record { formula = k; target = b; frame = t.frame })
           → fs' ≡ fs
           → D ≡ depth (n - 1 + 1) f u
           → Moves sh all u S z (spot gs' fs' D) P y
-      pick_done P y o v gs' fs' D told settled eg ef ed =
-          let m = subst (λ q. Settled w S h z q P y) told settled in
+      pick_done P y v gs' fs' D m eg ef ed =
           let is = opened sh w wide gs fs n f u fit more (Pick a k) at in
           let ok = node_okay sh w wide gs fs n f u fit more (Pick a k) at in
           one_put sh w wide gs fs n f u fit more S P z y m.alive (whole part (Pick a k)) b is k b gs' fs' D ok.1
@@ -176,27 +160,25 @@ module _ (sh : Sheet) (w : ℕ) (wide : w ≡ length sh.ranges.items) (gs : List
         (subst (λ o. Fits z (Solving rules o u S)) (opened sh w wide gs fs n f u fit more (Join j p q l r) at) room)
 
     pub join_halted :
-        (P : Marks) (y : Way) (d : Spot) (o : Option Sides) (a : Result Unit Stop)
-        → o ≡ None
-        → a ≡ Err Halted
-        → Sided j p q b z o y
+        (P : Marks) (y : Way) (d : Spot) (i : Stop) (a : Result Unit Stop)
+        → a ≡ Err i
+        → Sided j (branch p q) b z (Err i) y
         → Turned sh all u S z a d P y
-    join_halted P y d o a none is sided =
-        let h = subst (λ v. Sided j p q b z v y) none sided in
-        halted P y d a is (subst (λ v. Halt z (Solving rules v u S) y)
+    join_halted P y d i a is h =
+        halted P y d i a is (subst (λ v. Halts z (Solving rules v u S) i y)
         (sym (opened sh w wide gs fs n f u fit more (Join j p q l r) at))
-        (join_halt rules e b below u S C x w z j p q (part l) (part r) h.0 y h.1))
+        (join_halt rules e b below u S C x w z j p q (part l) (part r) h.0 y i h.1))
 
     pub left_done :
-        (y : Way) (o : Option Sides) (gs' : List Goal) (fs' : List Frame) (D : Depth)
-        → o ≡ Some Left
-        → Sided j p q b z o y
+        (y : Way) (o : Sides) (gs' : List Goal) (fs' : List Frame) (D : Depth)
+        → o ≡ Left
+        → Sided j (branch p q) b z (Ok o) y
         → gs' ≡ set gs (n - 1) (record { formula = l; target = b; frame = t.frame })
         → fs' ≡ fs
         → D ≡ depth (n - 1 + 1) f u
         → Moves sh all u S z (spot gs' fs' D) S y
     left_done y o gs' fs' D told sided eg ef ed =
-        let h = subst (λ v. Sided j p q b z v y) told sided in
+        let h = subst (λ v. Sided j (branch p q) b z (Ok v) y) told sided in
         let is = opened sh w wide gs fs n f u fit more (Join j p q l r) at in
         let ok = node_okay sh w wide gs fs n f u fit more (Join j p q l r) at in
         one_put sh w wide gs fs n f u fit more S S z y lives (whole part (Join j p q l r)) b is l b gs' fs' D ok.1
@@ -217,9 +199,9 @@ module _ (sh : Sheet) (w : ℕ) (wide : w ≡ length sh.ranges.items) (gs : List
         omega (arith, room, long, deep)
 
     pub both_done :
-        (y : Way) (o : Option Sides) (c : Bool) (gs₁ gs' : List Goal) (fs₁ fs' : List Frame) (D₁ D : Depth)
-        → o ≡ Some (Both c)
-        → Sided j p q b z o y
+        (y : Way) (o : Sides) (c : Bool) (gs₁ gs' : List Goal) (fs₁ fs' : List Frame) (D₁ D : Depth)
+        → o ≡ Both c
+        → Sided j (branch p q) b z (Ok o) y
         → gs₁ ≡ set gs (n - 1) (record { formula = r; target = b; frame = t.frame })
         → fs₁ ≡ fs
         → D₁ ≡ depth (n - 1 + 1) f u
@@ -228,7 +210,7 @@ module _ (sh : Sheet) (w : ℕ) (wide : w ≡ length sh.ranges.items) (gs : List
         → D ≡ depth (D₁.goals + 1) D₁.frames D₁.fuel
         → Moves sh all u S z (spot gs' fs' D) S y
     both_done y o c gs₁ gs' fs₁ fs' D₁ D told sided eg₁ ef₁ ed₁ eg ef ed =
-        let h = subst (λ v. Sided j p q b z v y) told sided in
+        let h = subst (λ v. Sided j (branch p q) b z (Ok v) y) told sided in
         let is = opened sh w wide gs fs n f u fit more (Join j p q l r) at in
         let ok = node_okay sh w wide gs fs n f u fit more (Join j p q l r) at in
         two_put sh w wide gs fs n f u fit more S S z y lives (whole part (Join j p q l r)) b is l r c b gs₁ gs' fs'
@@ -246,26 +228,22 @@ module _ (sh : Sheet) (w : ℕ) (wide : w ≡ length sh.ranges.items) (gs : List
         (subst (λ o. Fits z (Solving rules o u S)) (opened sh w wide gs fs n f u fit more (Call r k ts) at) room)
 
     pub call_halted :
-        (m : ℕ) (P : Marks) (y : Way) (q : Spot) (o : Option Frame) (a : Result Unit Stop)
-        → o ≡ None
-        → a ≡ Err Halted
-        → Passed w e S (map term_of (take k ts)) m z o P y
+        (m : ℕ) (P : Marks) (y : Way) (q : Spot) (i : Stop) (a : Result Unit Stop)
+        → a ≡ Err i
+        → Passed w e S (map term_of (take k ts)) m z (Err i) P y
         → Turned sh all u S z a q P y
-    call_halted m P y q o a none is h = halted P y q a is
-        (subst (λ v. Halt z (Solving rules v u S) y) (sym (opened sh w wide gs fs n f u fit more (Call r k ts) at))
-        (call_halt rules e b below S C x w z r (map term_of (take k ts)) u m P y
-        (subst (λ v. Passed w e S (map term_of (take k ts)) m z v P y) none h)))
+    call_halted m P y q i a is h = halted P y q i a is
+        (subst (λ v. Halts z (Solving rules v u S) i y) (sym (opened sh w wide gs fs n f u fit more (Call r k ts) at))
+        (call_halt rules e b below S C x w z r (map term_of (take k ts)) u m P y i h))
 
     pub call_done :
-        (m : ℕ) (P : Marks) (y : Way) (v : Option Frame) (a : Frame)
+        (m : ℕ) (P : Marks) (y : Way) (a : Frame)
         → m ≡ k
-        → v ≡ Some a
-        → Passed w e S (map term_of (take k ts)) m z v P y
+        → Passed w e S (map term_of (take k ts)) m z (Ok a) P y
         → (q : Spot) (o : Result Unit Stop)
         → Entered a (line_at (lines_in sh) r).body b (spot gs fs (depth (n - 1) f u)) o q
         → Turned sh all u S z o q P y
-    call_done m P y v a long told passed q o entry =
-        let h = subst (λ d. Passed w e S (map term_of (take k ts)) m z d P y) told passed in
+    call_done m P y a long h q o entry =
         let is = opened sh w wide gs fs n f u fit more (Call r k ts) at in
         let ok = node_okay sh w wide gs fs n f u fit more (Call r k ts) at in
         let terms = map term_of (take k ts) in

@@ -1,7 +1,8 @@
 -- Traces taken one after the other.
 use Rattle.std.proofs.Common.{◌≡◌, ℕ, ◌+◌, [], ◌∷◌, ◌++◌, length, sym, refl, ap, ◌∙◌, subst, append_assoc, arith, length-append, length-set}
 use Rattle.meaning.specs.Traces.{width, took, Trace}
-use Rattle.run.specs.Ways.{Trail, Room, put, written, Way, SameTrail, Took, Fits, Halt}
+use Rattle.run.specs.Ways.{Trail, Room, put, written, Way, SameTrail, Took, Fits, Halt, Halts}
+use Rattle.run.specs.declared.stop.Stop.{Stop}
 use Rattle.run.specs.declared.trail.Trail.{Trail as TrailKept}
 use Rattle.run.proofs.Guides.{guided_join}
 
@@ -11,7 +12,7 @@ pub trails_join :
     → SameTrail fixed a b
     → SameTrail fixed b c
     → SameTrail fixed a c
-trails_join fixed a b c p q = (q.0 ∙ p.0, q.1 ∙ p.1, q.2 ∙ p.2, q.3 ∙ p.3, q.4 ∙ p.4)
+trails_join fixed a b c p q = (q.0 ∙ p.0, q.1 ∙ p.1, q.2 ∙ p.2, q.3 ∙ p.3, q.4 ∙ p.4, q.5 ∙ p.5)
 
 pub written_join : (z : Trail) (t u : Trace) → written z (t ++ u) ≡ written (written z t) u
 written_join z [] u = refl
@@ -94,6 +95,22 @@ module _ {z : Way} where
         end = h.end ∙ ap (λ q. written q h.before) a.end ∙ sym
             (written_join z.trail a.trace h.before);
       }
+
+-- the same of a run that stops
+module _ {z : Way} where
+  pub halts_map :
+      {M N : Trace → Type 0} {s : Stop} {y : Way} → ((t : Trace) → M t → N t) → Halts z M s y → Halts z N s y
+  halts_map f h = record { is = h.is; at = halt_map f h.at }
+
+  pub halts_on :
+      {M N : Trace → Type 0} {s : Stop} {y : Way}
+      → ((t : Trace) → M t → (u : Trace) × N (t ++ u)) → Halts z M s y → Halts z N s y
+  halts_on f h = record { is = h.is; at = halt_on f h.at }
+
+  pub halts_after :
+      {M N L : Trace → Type 0} {s : Stop} {y x : Way}
+      → ((t u : Trace) → M t → N u → L (t ++ u)) → Took z M y → Halts y N s x → Halts z L s x
+  halts_after f a h = record { is = h.is; at = halt_after f a h.at }
 
 pub fits_on :
     {z : Way} {M N : Trace → Type 0}

@@ -1,5 +1,5 @@
 -- The loop over the goals, from its turns.
-use Rattle.std.proofs.Common.{◌≡◌, ℕ, ◌+◌, ◌*◌, ◌<◌, ◌≤◌, true, List, [], ◌∷◌, ◌++◌, length, get_or, set, Err, Result, sym, ap, ◌∙◌, subst, append_assoc, append-nil, arith, length-set, get_or-set_same}
+use Rattle.std.proofs.Common.{◌≡◌, ℕ, ◌+◌, ◌<◌, ◌≤◌, true, List, [], ◌∷◌, ◌++◌, length, get_or, set, Err, Result, sym, ap, ◌∙◌, subst, append_assoc, append-nil, arith, length-set, get_or-set_same}
 use Rattle.formula.specs.Trees.{Formula, Rule}
 use Rattle.marks.specs.Sets.{Marks}
 use Rattle.marks.specs.Counted.{some}
@@ -10,6 +10,7 @@ use Rattle.meaning.specs.Pending.{Goal as Waiting}
 use Rattle.meaning.proofs.Pending.{alone}
 use Rattle.sheet.specs.declared.table.Sheet.{Sheet}
 use Rattle.sheet.specs.Sheets.{tree_of}
+use Rattle.run.specs.Rooms.{needed_entries}
 use Rattle.run.specs.declared.goal.Goal.{Goal}
 use Rattle.run.specs.declared.goal.Frame.{Frame}
 use Rattle.run.specs.declared.stop.Stop.{Stop}
@@ -25,7 +26,7 @@ use Rattle.run.proofs.Tables.{mark_is, mark_joins}
 use Rattle.run.proofs.Turns.{depth, pending_push}
 
 -- the beginning
-module _ (s : Sheet) (gs : List Goal) (fs : List Frame) (fuel : ℕ) (hg : 16 * (fuel + 1) + 8 ≤ length gs)
+module _ (s : Sheet) (gs : List Goal) (fs : List Frame) (fuel : ℕ) (hg : needed_entries fuel ≤ length gs)
     (hf : fuel + 1 ≤ length fs) (few : fuel ≤ 255) where
   abbrev pub start_goal : Goal
   start_goal = record { formula = s.mark.body; target = true; frame = 0 }

@@ -1,6 +1,6 @@
 -- What a run along recorded entries answers, and when it is refused; and the same of a run by the numbers of a
 -- source.
-use Rattle.std.specs.Prelude.{◌≡◌, ℕ, ◌+◌, ◌*◌, ◌≤◌, true, ◌≢◌, ◌⊎◌, List, [], ◌∷◌, ◌++◌, length, take, drop, Some, None, Ok, Err, Option, Result}
+use Rattle.std.specs.Prelude.{◌≡◌, ℕ, ◌+◌, ◌≤◌, true, ◌≢◌, ◌⊎◌, List, [], ◌∷◌, ◌++◌, length, take, drop, Some, None, Ok, Err, Option, Result}
 use Rattle.formula.specs.Trees.{Sheet}
 use Rattle.refusal.specs.declared.Refusal.{Refusal}
 use Rattle.refusal.specs.Table.{number}
@@ -8,10 +8,10 @@ use Rattle.marks.specs.Sets.{Marks}
 use Rattle.meaning.specs.Terms.{fields_of}
 use Rattle.meaning.specs.Traces.{width, took, Trace}
 use Rattle.meaning.specs.Runs.{Outcome, mark, dead_end, spent_run, Run}
+use Rattle.run.specs.Rooms.{needed_entries}
 use Rattle.run.specs.declared.answer.Ended.{Ended}
 use Rattle.run.specs.declared.answer.Ended.TheVariants.{Mark, DeadEnd, Spent}
 use Rattle.run.specs.declared.answer.Ran.{Ran}
-use Rattle.run.specs.declared.answer.Drew.{Drew}
 use Rattle.run.specs.Guides.{Guide, recorded, Guided, entries}
 use Rattle.meaning.specs.Draws.{Drawn, ran, dry, Draws}
 
@@ -39,12 +39,12 @@ pub record Lists : Type 0 where
 abbrev pub lists : List ℕ → List ℕ → List ℕ → ℕ → ℕ → Lists
 lists ps ws m g f = record { picks = ps; widths = ws; mark = m; goals = g; frames = f }
 
--- the trace lists and the goals have at least 16 × (fuel + 1) + 8 entries, the frames fuel + 1, the mark
--- one for each field, and the given entries stand in the trace lists
+-- the trace lists and the goals have the entries that they need, the frames fuel + 1, the mark one for each field,
+-- and the given entries stand in the trace lists
 pub record LongEnough (fuel fields given : ℕ) (l : Lists) : Type 0 where
-  pub picks : 16 * (fuel + 1) + 8 ≤ length l.picks
-  pub widths : 16 * (fuel + 1) + 8 ≤ length l.widths
-  pub goals : 16 * (fuel + 1) + 8 ≤ l.goals
+  pub picks : needed_entries fuel ≤ length l.picks
+  pub widths : needed_entries fuel ≤ length l.widths
+  pub goals : needed_entries fuel ≤ l.goals
   pub frames : fuel + 1 ≤ l.frames
   pub mark : fields ≤ length l.mark
   pub given_picks : given ≤ length l.picks
@@ -82,7 +82,7 @@ pub record Written (before : Lists) (t : Trace) (after : Lists) : Type 0 where
   pub widths : after.widths ≡ over (widths_of t) before.widths
 
 -- the run that follows the guide g to its end; the lists hold its trace, and there is no other such run
-pub record Runs (s : Setting) (g : Guide) (before : Lists) (a : Ran) (after : Lists) : Type 0 where
+pub record Runs (s : Setting) (g : Guide) (before : Lists) (a : Ran Ended) (after : Lists) : Type 0 where
   pub trace : Trace
   pub outcome : Outcome
   pub run : Run s.sheet s.fuel s.starting trace outcome
@@ -143,7 +143,7 @@ pub record Unfit (s : Setting) (given : ℕ) (l : Lists) (k : ℕ) : Type 0 wher
 
 -- what `follow` answers: the run that follows the given entries to their end, or a refusal that leaves
 -- the lists as found
-abbrev pub Follows : Setting → (given : ℕ) → Lists → Result Ran Refusal → Lists → Type 0
+abbrev pub Follows : Setting → (given : ℕ) → Lists → Result (Ran Ended) Refusal → Lists → Type 0
 Follows s given before (Ok a) after =
     SameFields s × LongEnough s.fuel s.fields given before
     × Runs s (first_entries given before) before a after
@@ -171,7 +171,8 @@ drawn_filled (ran o) ys = filled o ys
 drawn_filled dry ys = ys
 
 -- the one draw from the numbers ns, of which rest still wait; the lists hold its trace
-pub record DrawsTo (s : Setting) (ns rest : List ℕ) (before : Lists) (a : Drew) (after : Lists) : Type 0 where
+pub record DrawsTo (s : Setting) (ns rest : List ℕ) (before : Lists) (a : Ran (Option Ended)) (after : Lists)
+    : Type 0 where
   pub trace : Trace
   pub result : Drawn
   pub draw : Draws s.sheet s.fuel s.starting ns result trace rest
@@ -181,7 +182,9 @@ pub record DrawsTo (s : Setting) (ns rest : List ℕ) (before : Lists) (a : Drew
   pub marked : after.mark ≡ drawn_filled result before.mark
 
 -- what `draw` answers: the draw from the waiting numbers, or a refusal that takes none and leaves the lists
-abbrev pub AnswersDraw : Setting → (waiting rest : List ℕ) → Lists → Result Drew Refusal → Lists → Type 0
+abbrev pub AnswersDraw :
+    Setting → (waiting rest : List ℕ) → Lists → Result (Ran (Option Ended)) Refusal → Lists
+    → Type 0
 AnswersDraw s ns rest before (Ok a) after =
     SameFields s × LongEnough s.fuel s.fields 0 before × DrawsTo s ns rest before a after
 AnswersDraw s ns rest before (Err e) after =

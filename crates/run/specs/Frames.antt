@@ -3,10 +3,10 @@
 use Rattle.std.specs.Prelude.{◌≡◌, ℕ, ◌<◌, ◌≤◌, List, map, take, slice_index_or}
 use Rattle.sheet.specs.declared.node.Name.{Name}
 use Rattle.sheet.specs.declared.node.Name.TheVariants.{Field as NamedField, Param}
-use Rattle.sheet.specs.declared.node.Shift.{Shift}
-use Rattle.sheet.specs.declared.node.Shift.TheVariants.{Up, Down}
-use Rattle.sheet.specs.declared.node.Term.{Term}
-use Rattle.sheet.specs.declared.node.Term.TheVariants.{Number as NumberTerm, Bare, Moved}
+use Rattle.formula.specs.declared.term.Shift.{Shift}
+use Rattle.formula.specs.declared.term.Shift.TheVariants.{Up, Down}
+use Rattle.sheet.specs.Table.{SheetTerm}
+use Rattle.formula.specs.declared.term.Term.TheVariants.{Number as NumberTerm, Bare, Moved}
 use Rattle.sheet.specs.Table.{name_of}
 use Rattle.meaning.specs.Matching.{Argument, the_field, the_number, argument}
 use Rattle.run.specs.declared.goal.Argument.{Argument as Held}
@@ -42,13 +42,13 @@ abbrev pub KnownIn : (n : ℕ) → Name → Type 0
 KnownIn n (NamedField f) = Unit {0}
 KnownIn n (Param p) = p < n
 
--- a number that a mark may hold
+-- a shift by a number that a mark may hold
 abbrev pub ShiftOkay : Shift → Type 0
 ShiftOkay (Up k) = k < 1024
 ShiftOkay (Down k) = k < 1024
 
 -- a term whose names and numbers are in order
-abbrev pub TermOkay : (w n : ℕ) → Term → Type 0
+abbrev pub TermOkay : (w n : ℕ) → SheetTerm → Type 0
 TermOkay w n (NumberTerm k) = k < 1024
 TermOkay w n (Bare x) = NameOkay w n x
 TermOkay w n (Moved x d) = NameOkay w n x × ShiftOkay d

@@ -1,18 +1,18 @@
 -- For the contracts of inner functions: the stack as goals of the definitions, what the lists hold at each
 -- turn, and what one turn comes to.
-use Rattle.std.specs.Prelude.{◌≡◌, ℕ, zero, suc, ◌+◌, ◌-◌, ◌*◌, ◌<◌, ◌≤◌, Bool, true, false, not, ◌≢◌, ◌⊎◌, List, [], ◌∷◌, ◌++◌, map, length, take, Some, None, Ok, Err, Option, Result, slice_index_or, slice_set}
+use Rattle.std.specs.Prelude.{◌≡◌, ℕ, zero, suc, ◌+◌, ◌-◌, ◌*◌, ◌<◌, ◌≤◌, Bool, true, false, not, ◌≢◌, ◌⊎◌, List, [], ◌∷◌, ◌++◌, length, Ok, Err, Result, slice_index_or, slice_set}
 use Rattle.formula.specs.declared.Join.{Join}
 use Rattle.formula.specs.Trees.{Rule}
 use Rattle.formula.specs.Trees.{Term as TermTree}
 use Rattle.marks.specs.Sets.{Marks}
 use Rattle.marks.specs.Counted.{some}
 use Rattle.meaning.specs.Terms.{rules_of, wants}
-use Rattle.meaning.specs.Traces.{branch, Trace}
+use Rattle.meaning.specs.Traces.{Choice, Trace}
 use Rattle.meaning.specs.Matching.{Argument, Passes, State, live, dead, spent}
 use Rattle.meaning.specs.Pending.{goal, Solves, load}
 use Rattle.meaning.specs.Pending.{Goal as Waiting}
-use Rattle.sheet.specs.declared.node.Term.{Term}
-use Rattle.sheet.specs.declared.node.Term.TheVariants.{Number}
+use Rattle.sheet.specs.Table.{SheetTerm}
+use Rattle.formula.specs.declared.term.Term.TheVariants.{Number}
 use Rattle.sheet.specs.declared.table.Sheet.{Sheet}
 use Rattle.sheet.specs.Table.{term_of, line_at, formula_at}
 use Rattle.sheet.specs.Keeping.{Within, size}
@@ -26,20 +26,16 @@ use Rattle.run.specs.declared.stop.Stop.TheVariants.{DeadEnd, Spent, Halted}
 use Rattle.run.specs.declared.turn.Sides.{Sides}
 use Rattle.run.specs.declared.turn.Sides.TheVariants.{Left, Both}
 use Rattle.run.specs.Frames.{arguments_of, FrameOkay, TermOkay}
-use Rattle.run.specs.Ways.{Way, Took, Halt, Chosen}
+use Rattle.run.specs.Ways.{Way, Took, Halt, Halts, Chosen}
 
 -- Calls
 
--- the first n terms
-abbrev pub terms : List Term → ℕ → List TermTree
-terms ts n = map term_of (take n ts)
-
 -- at most four terms, in order for w fields and k parameters
-abbrev pub TermsOkay : (w k : ℕ) → List Term → Type 0
+abbrev pub TermsOkay : (w k : ℕ) → List SheetTerm → Type 0
 TermsOkay w k ts = (length ts ≤ 4) × ((j : ℕ) → j < length ts → TermOkay w k (slice_index_or ts j (Number 0)))
 
 -- n terms from place i on
-abbrev pub from : List Term → ℕ → ℕ → List TermTree
+abbrev pub from : List SheetTerm → ℕ → ℕ → List TermTree
 from ts i zero = []
 from ts i (suc n) = term_of (slice_index_or ts i (Number 0)) ∷ from ts (suc i) n
 
@@ -56,9 +52,9 @@ pub record PassedAs (w : ℕ) (e : List Argument) (S : Marks) (ts : List TermTre
   pub alive : some w P ≡ true
 
 -- the terms are passed, or the run halted
-abbrev pub Passed : ℕ → List Argument → Marks → List TermTree → ℕ → Way → Option Frame → Marks → Way → Type 0
-Passed w e S ts n z (Some f) P y = PassedAs w e S ts n z f P y
-Passed w e S ts n z None P y = Halt z (Passing e S ts) y
+abbrev pub Passed : ℕ → List Argument → Marks → List TermTree → ℕ → Way → Result Frame Stop → Marks → Way → Type 0
+Passed w e S ts n z (Ok f) P y = PassedAs w e S ts n z f P y
+Passed w e S ts n z (Err s) P y = Halts z (Passing e S ts) s y
 
 -- whatever passes the terms us from there passes the terms ts
 abbrev pub PassLeads : List Argument → Marks → List TermTree → Marks → List TermTree → Frame → Trace → Type 0
@@ -91,10 +87,13 @@ spot gs fs d = record { goals = gs; frames = fs; depth = d }
 abbrev pub spot_of : Stack → Spot
 spot_of t = spot t.goals.now t.frames.now t.depth
 
--- the same lists of goals and frames
+-- the same lists of goals and frames, as long as before
 abbrev pub SameStack : (before after : Stack) → Type 0
 SameStack before after =
-    (after.goals.ghost_name ≡ before.goals.ghost_name) × (after.frames.ghost_name ≡ before.frames.ghost_name)
+    (after.goals.ghost_name ≡ before.goals.ghost_name)
+    × (after.frames.ghost_name ≡ before.frames.ghost_name)
+    × (length after.goals.now ≡ length before.goals.now)
+    × (length after.frames.now ≡ length before.frames.now)
 
 -- a goal as one of the definitions
 abbrev pub goal_of : Sheet → List Frame → Goal → Waiting
@@ -167,16 +166,16 @@ Turned s gs n S z (Err Halted) p P y = Halt z (Solving (rules_of (tree_of s)) gs
 
 -- Joins and calls
 
--- the sides of a join that the target b asks for, with the choice made for them
-abbrev pub Sided : Join → (v w : ℕ) → Bool → Way → Option Sides → Way → Type 0
+-- the sides of a join that the target b asks for, with the choice c made for them
+abbrev pub Sided : Join → Choice → Bool → Way → Result Sides Stop → Way → Type 0
 -- no pick is told
-Sided j v w b z None y = (b ≢ wants j) × Chosen (branch v w) z None y
+Sided j c b z (Err s) y = (b ≢ wants j) × Chosen c z (Err s) y
 -- branch 0: the left side meets the target
-Sided j v w b z (Some Left) y = (b ≢ wants j) × Chosen (branch v w) z (Some 0) y
+Sided j c b z (Ok Left) y = (b ≢ wants j) × Chosen c z (Ok 0) y
 -- both sides meet a target that the join wants; or branch 1: the left side fails the target, and the right
 -- meets it
-Sided j v w b z (Some (Both c)) y =
-    ((b ≡ wants j) × (c ≡ b) × (y ≡ z)) ⊎ ((b ≢ wants j) × (c ≡ not b) × Chosen (branch v w) z (Some 1) y)
+Sided j c b z (Ok (Both a)) y =
+    ((b ≡ wants j) × (a ≡ b) × (y ≡ z)) ⊎ ((b ≢ wants j) × (a ≡ not b) × Chosen c z (Ok 1) y)
 
 -- a rule entered with the frame f: its formula waits with a frame of its own, and one fuel is spent; or
 -- none is left

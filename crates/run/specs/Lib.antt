@@ -1,3 +1,4 @@
+pub mod Rooms
 pub mod Guides
 pub mod Ahead
 pub mod Past

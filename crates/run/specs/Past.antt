@@ -13,11 +13,13 @@ entries_set ps ws k p w j (suc n) h =
     (λ i. noted (get_or-set_other ps k j p 0 ne i) (get_or-set_other ws k j w 0 ne i) ∷ entries_set ps ws k p w
     (suc j) n (omega arith) i)
 
+-- to what recorded entries tell
 pub recorded_past :
     (given : ℕ) (ps ws : List ℕ) (k p w : ℕ)
     → recorded_ahead given (set ps k p) (set ws k w) (suc k) ≡ recorded_ahead given ps ws (suc k)
 recorded_past given ps ws k p w = ap recorded (entries_set ps ws k p w (suc k) (given - suc k) (omega arith))
 
+-- to what the numbers of a source tell
 pub drawn_past :
     (ns ps ws : List ℕ) (k p w : ℕ)
     → drawn_ahead ns (set ps k p) (set ws k w) (suc k) ≡ drawn_ahead ns ps ws (suc k)

@@ -1,21 +1,19 @@
 -- For the contracts of inner functions: the trace lists and the guide of a run under way; that a part of it
 -- took a trace, or came to a choice at which no pick is told.
-use Rattle.std.specs.Prelude.{◌≡◌, ℕ, suc, ◌+◌, ◌<◌, ◌≤◌, List, [], ◌∷◌, ◌++◌, length, Some, None, Option, slice_index, slice_set}
+use Rattle.std.specs.Prelude.{◌≡◌, ℕ, suc, ◌+◌, ◌<◌, ◌≤◌, List, [], ◌∷◌, ◌++◌, length, Some, None, Ok, Err, Option, Result, slice_index, slice_set}
+use Rattle.std.specs.Int.NonZero.{non_zero_u16_get}
 use Rattle.meaning.specs.Traces.{Choice, among, branch, width, took, Trace}
-use Rattle.run.specs.declared.guide.Choice.{Choice as ChoiceMade}
-use Rattle.run.specs.declared.guide.Choice.TheVariants.{Among, Branch}
+use Rattle.run.specs.declared.choice.Choice.{Choice as ChoiceMade}
+use Rattle.run.specs.declared.choice.Choice.TheVariants.{Among, Branch}
+use Rattle.run.specs.declared.stop.Stop.{Stop}
+use Rattle.run.specs.declared.stop.Stop.TheVariants.{Halted}
 use Rattle.run.specs.declared.trail.Trail.{Trail as TrailKept}
 use Rattle.run.specs.Guides.{Guide, Picks, NoPick, Guided}
 
 -- the choice of the definitions
 abbrev pub choice_of : ChoiceMade → Choice
-choice_of (Among c) = among c
-choice_of (Branch v w) = branch v w
-
--- there is something to choose
-abbrev pub Usable : ChoiceMade → Type 0
-Usable (Among c) = 0 < c
-Usable (Branch v w) = 0 < v + w
+choice_of (Among c) = among (non_zero_u16_get c)
+choice_of (Branch w) = branch w.left w.right
 
 -- the two trace lists, and how many entries are written
 pub record Trail : Type 0 where
@@ -52,16 +50,17 @@ way ahead ps ws k = record { trail = trail ps ws k; guide = ahead ps ws k }
 
 -- the way that a trail with its guide goes on
 abbrev pub way_of : {G : Type 0} → (G → (picks widths : List ℕ) (k : ℕ) → Guide) → TrailKept G → Way
-way_of ahead t = way (ahead t.guide) t.picks.now t.widths.now t.at
+way_of ahead t = way (ahead t.guide.now) t.picks.now t.widths.now t.at
 
--- the same lists, as long as before, and the same of the guide
+-- the same lists, as long as before, and the same guide, and of it what no telling changes
 abbrev pub SameTrail : {G : Type 0} → (fixed : G → ℕ) → (before after : TrailKept G) → Type 0
 SameTrail fixed before after =
     (after.picks.ghost_name ≡ before.picks.ghost_name)
     × (after.widths.ghost_name ≡ before.widths.ghost_name)
     × (length after.picks.now ≡ length before.picks.now)
     × (length after.widths.now ≡ length before.widths.now)
-    × (fixed after.guide ≡ fixed before.guide)
+    × (after.guide.ghost_name ≡ before.guide.ghost_name)
+    × (fixed after.guide.now ≡ fixed before.guide.now)
 
 -- a trace of M was taken: the guide told its picks, and it is written at the end of the trail
 pub record Took (z : Way) (M : Trace → Type 0) (y : Way) : Type 0 where
@@ -84,6 +83,11 @@ pub record Halt (z : Way) (M : Trace → Type 0) (y : Way) : Type 0 where
   pub stuck : NoPick y.guide choice
   pub end : y.trail ≡ written z.trail before
 
+-- the run stops since it is halted, and for no other reason
+pub record Halts (z : Way) (M : Trace → Type 0) (s : Stop) (y : Way) : Type 0 where
+  pub is : s ≡ Halted
+  pub at : Halt z M y
+
 -- the pick that is told at place k, of what is told there and past it; or none, and the same is told there
 abbrev pub Tells : Choice → (k : ℕ) → (before : ℕ → Guide) → Option ℕ → (after : ℕ → Guide) → Type 0
 Tells c k before (Some p) after = (p < width c) × Picks (before k) c p (after (suc k))
@@ -101,7 +105,7 @@ TellsAt c k p w before r after =
     (ps ws : List ℕ) → slice_index ps k ≡ p → slice_index ws k ≡ w → Tells c k (before ps ws) r (after ps ws)
 
 -- a choice made: one entry more, or nothing written
-abbrev pub Chosen : Choice → Way → Option ℕ → Way → Type 0
-Chosen c z (Some p) y =
+abbrev pub Chosen : Choice → Way → Result ℕ Stop → Way → Type 0
+Chosen c z (Ok p) y =
     (p < width c) × Picks z.guide c p y.guide × (y.trail ≡ put z.trail p (width c))
-Chosen c z None y = NoPick y.guide c × (y ≡ z)
+Chosen c z (Err s) y = (s ≡ Halted) × NoPick y.guide c × (y ≡ z)

@@ -1,5 +1,6 @@
 -- For the contracts of inner functions: what the loop over the goals, and the end of a run, come to.
-use Rattle.std.specs.Prelude.{◌≡◌, ℕ, true, List, [], ◌++◌, take, Some, None, Ok, Err, Option, Result}
+use Rattle.std.specs.Prelude.{◌≡◌, ℕ, true, List, [], ◌++◌, Ok, Err, Result}
+use Rattle.arrayvec.specs.ArrayVec.{ArrayVec}
 use Rattle.formula.specs.Trees.{Formula, Rule}
 use Rattle.marks.specs.Sets.{Marks}
 use Rattle.marks.specs.Counted.{some}
@@ -8,7 +9,7 @@ use Rattle.meaning.specs.Matching.{State, live, dead, spent, Matches}
 use Rattle.meaning.specs.Runs.{Ends}
 use Rattle.run.specs.declared.stop.Stop.{Stop}
 use Rattle.run.specs.declared.stop.Stop.TheVariants.{DeadEnd, Spent, Halted}
-use Rattle.run.specs.Ways.{Way, Took, Halt}
+use Rattle.run.specs.Ways.{Way, Took, Halt, Halts}
 
 -- the traces of matching a formula with target true
 abbrev pub Matching : List Rule → Formula → ℕ → Marks → Trace → Type 0
@@ -39,7 +40,7 @@ EndLeads w S f c P vs v =
     → Ends f c P u Q ws
     → Ends 0 w S (v ++ u) Q (vs ++ ws)
 
--- the w fields are settled to the first of the numbers, or the run halted
-abbrev pub Finished : (w : ℕ) → Marks → Way → Option (List ℕ) → Marks → Way → Type 0
-Finished w S z (Some vs) P y = Took z (λ v. Ends 0 w S v P (take w vs)) y
-Finished w S z None P y = Halt z (Ending 0 w S) y
+-- the w fields are settled to the numbers, or the run halted
+abbrev pub Finished : (w : ℕ) → Marks → Way → Result (ArrayVec ℕ) Stop → Marks → Way → Type 0
+Finished w S z (Ok vs) P y = Took z (λ v. Ends 0 w S v P vs.items) y
+Finished w S z (Err s) P y = Halts z (Ending 0 w S) s y

@@ -1,4 +1,4 @@
-// What a run asks before it begins: a store with the sheet's fields, and lists that are long enough.
+// What a run asks before it begins.
 ghost use Rattle.sheet.specs.Sheets.{tree_of};
 ghost use Rattle.run.specs.Answering.{setting, Admits};
 ghost use Rattle.run.specs.Lists.{held};
@@ -9,7 +9,8 @@ use sheet::table::Sheet;
 use store::Store;
 
 // Whether a run along the first `given` entries may begin: the store has the sheet's fields, and the lists are long
-// enough.
+// enough. The functions within ask of store and sheet again that they agree in fields: a struct of the two would be
+// taken apart by every part of a run that takes the store without the sheet.
 pub fn admit<S: Store>(
     sheet: &Sheet,
     store: &S,
@@ -24,7 +25,7 @@ pub fn admit<S: Store>(
     if store.fields() != sheet.field_count() {
         return Err(Refusal::FieldsDiffer);
     }
-    if !lists.are_long(fuel, sheet.field_count(), given) {
+    if !lists.are_long_enough(fuel, sheet.field_count(), given) {
         return Err(Refusal::ListTooShort);
     }
     Ok(())

@@ -8,16 +8,10 @@ pub enum Ended {
     Spent,
 }
 
-// How a run ended, and how many entries its trace has.
+// How a run ended, and how many entries its trace has. A draw's end is an `Option`: none where its numbers ran out.
+// Inside, the end is the numbers of a mark, or why there is none.
 #[derive(Clone, Copy, PartialEq, Eq, Debug)]
-pub struct Ran {
-    pub ended: Ended,
-    pub length: usize,
-}
-
-// How a draw ended, or none where its numbers ran out, and how many entries its trace has.
-#[derive(Clone, Copy, PartialEq, Eq, Debug)]
-pub struct Drew {
-    pub ended: Option<Ended>,
+pub struct Ran<E = Ended> {
+    pub ended: E,
     pub length: usize,
 }

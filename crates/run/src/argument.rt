@@ -10,36 +10,46 @@ ghost use Rattle.run.specs.Comparing.{Knows, Resolved, Resolving};
 use crate::goal::{Argument, Frame};
 use crate::guide::Guide;
 use crate::settle::settle;
+use crate::stop::Stop;
 use crate::trail::Trail;
 use sheet::node::{Name, Term};
 use store::Store;
 
-// What a name stands for.
-pub(crate) fn argument(frame: Frame, name: Name) -> Argument
-    requires few { frame.count ≤ 4 }
-    requires known { KnownIn frame.count name }
-    ensures { Stands frame name result }
-{
-    match name {
-        Name::Field(field) => Argument::Field(field),
-        Name::Param(place) => frame.arguments[place as usize],
+impl Frame {
+    // What a name stands for.
+    pub(crate) fn argument(self, name: Name) -> Argument
+        requires few { self.count ≤ 4 }
+        requires known { KnownIn self.count name }
+        ensures { Stands self name result }
+    {
+        match name {
+            Name::Field(field) => Argument::Field(field),
+            Name::Param(place) => self.arguments[usize::from(place)],
+        }
     }
 }
 
+// A field that does not take one number only, and how many it takes.
+#[derive(Clone, Copy, Debug, PartialEq, Eq)]
+pub(crate) struct Unsettled {
+    pub(crate) field: usize,
+    pub(crate) count: usize,
+}
+
 // The number of an argument that is known.
-pub(crate) fn known<S: Store>(store: &S, argument: Argument) -> Option<u16>
+pub(crate) fn known<S: Store>(store: &S, argument: Argument) -> Result<u16, Unsettled>
     requires okay { Okay (S.width store.now) argument }
-    ensures { Knows (S.current store.now) (argument_of argument) result }
+    ensures { Knows (S.width store.now) (S.current store.now) (argument_of argument) result }
 {
-    match argument {
-        Argument::Number(number) => Some(number),
-        Argument::Field(field) => {
-            if store.count(field as usize) == 1 {
-                return store.value(field as usize, 0);
-            }
-            None
-        }
+    let field = match argument {
+        Argument::Number(number) => return Ok(number),
+        Argument::Field(field) => usize::from(field),
+    };
+    let count = store.count(field);
+    if count == 1 {
+        return Ok(store.value(field, 0).unwrap());
     }
+    Err(Unsettled { field, count })
 }
 
 // What a term comes to: a name under `+` or `-` is settled, a bare name stays what it stands for.
@@ -48,7 +58,7 @@ pub(crate) fn resolve<S: Store, G: Guide>(
     frame: Frame,
     term: Term,
     trail: &mut Trail<'_, G>,
-) -> Option<Argument>
+) -> Result<Argument, Stop>
     requires frame { FrameOkay (S.width store.old) frame }
     requires okay { TermOkay (S.width store.old) frame.count term }
     requires some { some (S.width store.old) (S.current store.old) ≡ true }
@@ -60,11 +70,11 @@ pub(crate) fn resolve<S: Store, G: Guide>(
         (way_of G.ahead trail.old) result (S.current store.new) (way_of G.ahead trail.new) }
 {
     match term {
-        Term::Number(number) => Some(Argument::Number(number)),
-        Term::Bare(name) => Some(argument(frame, name)),
+        Term::Number(number) => Ok(Argument::Number(number)),
+        Term::Bare(name) => Ok(frame.argument(name)),
         Term::Moved(name, shift) => {
-            let number = settle(store, argument(frame, name), trail)?;
-            Some(Argument::Number(shift.apply(number)))
+            let number = settle(store, frame.argument(name), trail)?;
+            Ok(Argument::Number(shift.apply(number)))
         }
     }
 }

@@ -5,117 +5,99 @@ ghost use Rattle.sheet.specs.Table.{term_of};
 ghost use Rattle.run.specs.Frames.{Okay, argument_of, arguments_of, FrameOkay, TermOkay};
 ghost use Rattle.run.specs.Ways.{way_of, SameTrail, Fits};
 ghost use Rattle.run.specs.Settling.{Narrows};
-ghost use Rattle.run.specs.Comparing.{LeftOne, LeavingOne, AtMostOne, Kept, Narrowed, KeptRight, Compared, Comparing};
+ghost use Rattle.run.specs.Comparing.{LeavingOne, Narrowed, Related, Compared, Comparing};
 
 use crate::argument::{known, resolve};
 use crate::goal::{Argument, Frame};
 use crate::guide::Guide;
 use crate::settle::settle;
+use crate::stop::{Stop, alive};
 use crate::trail::Trail;
 use formula::Comparison;
 use sheet::node::Term;
 use store::Store;
 
-// Of two unknown fields the left is settled; none where no pick is told.
-fn leave_one<S: Store, G: Guide>(
-    store: &mut S,
-    left: Argument,
-    right: Argument,
-    trail: &mut Trail<'_, G>,
-) -> Option<()>
-    requires left { Okay (S.width store.old) left }
-    requires right { Okay (S.width store.old) right }
-    requires some { some (S.width store.old) (S.current store.old) ≡ true }
-    requires room { Fits (way_of G.ahead trail.old)
-        (LeavingOne (S.current store.old) (argument_of left) (argument_of right)) }
-    ensures same { Narrows S.width S.starting S.current store.old store.new }
-    ensures lists { SameTrail G.fixed trail.old trail.new }
-    ensures left { LeftOne (S.width store.old) (S.current store.old) (argument_of left) (argument_of right)
-        (way_of G.ahead trail.old) result (S.current store.new) (way_of G.ahead trail.new) }
-{
-    if known(store, left).is_some() {
-        return Some(());
-    }
-    if known(store, right).is_some() {
-        return Some(());
-    }
-    settle(store, left, trail)?;
-    Some(())
+// A comparison: its two sides, which are terms or what they come to, and the sign between them.
+#[derive(Clone, Copy, Debug, PartialEq, Eq)]
+pub(crate) struct Relation<T> {
+    pub(crate) left: T,
+    pub(crate) sign: Comparison,
+    pub(crate) right: T,
 }
 
-// Keeps by the sign, and says whether any mark is left.
-fn narrow<S: Store>(store: &mut S, field: u8, sign: Comparison, number: u16) -> bool
+// Keeps the marks whose field stands so to the number; a dead end where there is none.
+fn narrow<S: Store>(store: &mut S, field: usize, sign: Comparison, number: u16) -> Result<(), Stop>
     requires field { field < S.width store.old }
     requires number { number < 1024 }
     ensures same { Narrows S.width S.starting S.current store.old store.new }
     ensures left { Narrowed (S.width store.old) (S.current store.old) field sign
         number result (S.current store.new) }
 {
-    let _ = store.keep(field as usize, sign, number);
-    !store.is_empty()
+    let _ = store.keep(field, sign, number);
+    alive(store)
 }
 
-// A comparison with at most one unknown field.
-fn keep_by<S: Store>(store: &mut S, left: Argument, sign: Comparison, right: Argument) -> bool
-    requires left { Okay (S.width store.old) left }
-    requires right { Okay (S.width store.old) right }
+// A comparison of what its terms come to. Of two unknown fields the left is settled; the other is kept by the sign.
+fn relate<S: Store, G: Guide>(
+    store: &mut S,
+    sides: Relation<Argument>,
+    trail: &mut Trail<'_, G>,
+) -> Result<(), Stop>
+    requires left { Okay (S.width store.old) sides.left }
+    requires right { Okay (S.width store.old) sides.right }
     requires some { some (S.width store.old) (S.current store.old) ≡ true }
-    requires apart { AtMostOne (S.current store.old) (argument_of left) (argument_of right) }
+    requires room { Fits (way_of G.ahead trail.old)
+        (LeavingOne (S.current store.old) (argument_of sides.left) (argument_of sides.right)) }
     ensures same { Narrows S.width S.starting S.current store.old store.new }
-    ensures left { Kept (S.width store.old) (S.current store.old) sign
-        (argument_of left) (argument_of right) result (S.current store.new) }
+    ensures lists { SameTrail G.fixed trail.old trail.new }
+    ensures left { Related (S.width store.old) (S.current store.old) (argument_of sides.left) sides.sign
+        (argument_of sides.right) (way_of G.ahead trail.old) result (S.current store.new)
+        (way_of G.ahead trail.new) }
 {
-    match left {
-        Argument::Field(field) => match known(store, right) {
-            Some(number) => narrow(store, field, sign, number),
-            None => match known(store, left) {
-                Some(number) => keep_right(store, number, sign, right),
-                None => false,
-            },
-        },
-        Argument::Number(number) => keep_right(store, number, sign, right),
+    let sign = sides.sign;
+    match (known(store, sides.left), known(store, sides.right)) {
+        (Ok(left), Ok(right)) => {
+            if sign.holds(left, right) {
+                Ok(())
+            } else {
+                Err(Stop::DeadEnd)
+            }
+        }
+        (Ok(left), Err(right)) => narrow(store, right.field, sign.mirrored(), left),
+        (Err(left), Ok(right)) => narrow(store, left.field, sign, right),
+        (Err(_), Err(right)) => {
+            let left = settle(store, sides.left, trail)?;
+            narrow(store, right.field, sign.mirrored(), left)
+        }
     }
 }
 
-// A comparison whose left side is known to be a number.
-fn keep_right<S: Store>(store: &mut S, left: u16, sign: Comparison, right: Argument) -> bool
-    requires right { Okay (S.width store.old) right }
-    requires some { some (S.width store.old) (S.current store.old) ≡ true }
-    requires small { left < 1024 }
-    ensures same { Narrows S.width S.starting S.current store.old store.new }
-    ensures left { KeptRight (S.width store.old) (S.current store.old) sign left
-        (argument_of right) result (S.current store.new) }
-{
-    match right {
-        Argument::Field(field) => narrow(store, field, sign.mirrored(), left),
-        Argument::Number(number) => sign.holds(left, number),
-    }
-}
-
-// A comparison with its target: whether any mark is left, or none where no pick is told.
+// A comparison with target true: its terms are worked out, left before right.
 pub(crate) fn compare<S: Store, G: Guide>(
     store: &mut S,
     frame: Frame,
-    left: Term,
-    sign: Comparison,
-    right: Term,
-    target: bool,
+    terms: Relation<Term>,
     trail: &mut Trail<'_, G>,
-) -> Option<bool>
+) -> Result<(), Stop>
     requires frame { FrameOkay (S.width store.old) frame }
-    requires left { TermOkay (S.width store.old) frame.count left }
-    requires right { TermOkay (S.width store.old) frame.count right }
+    requires left { TermOkay (S.width store.old) frame.count terms.left }
+    requires right { TermOkay (S.width store.old) frame.count terms.right }
     requires some { some (S.width store.old) (S.current store.old) ≡ true }
     requires room { Fits (way_of G.ahead trail.old)
-        (Comparing (arguments_of frame) (term_of left) sign (term_of right) target (S.current store.old)) }
+        (Comparing (arguments_of frame) (term_of terms.left) terms.sign (term_of terms.right)
+        (S.current store.old)) }
     ensures same { Narrows S.width S.starting S.current store.old store.new }
     ensures lists { SameTrail G.fixed trail.old trail.new }
-    ensures left { Compared (S.width store.old) (arguments_of frame) (term_of left) sign
-        (term_of right) target (S.current store.old)
+    ensures left { Compared (S.width store.old) (arguments_of frame) (term_of terms.left) terms.sign
+        (term_of terms.right) (S.current store.old)
         (way_of G.ahead trail.old) result (S.current store.new) (way_of G.ahead trail.new) }
 {
-    let first = resolve(store, frame, left, trail)?;
-    let second = resolve(store, frame, right, trail)?;
-    leave_one(store, first, second, trail)?;
-    Some(keep_by(store, first, sign.aimed(target), second))
+    let left = resolve(store, frame, terms.left, trail)?;
+    let right = resolve(store, frame, terms.right, trail)?;
+    let sides = Relation {
+        left,
+        sign: terms.sign,
+        right,
+    };
+    relate(store, sides, trail)
 }

@@ -5,12 +5,11 @@ ghost use Rattle.run.specs.Lists.{held, SameLists};
 ghost use Rattle.store.specs.Rules.{Stays};
 
 use crate::admit::admit;
-use crate::along::along;
-use crate::answer::Drew;
+use crate::along::run;
+use crate::answer::{Ended, Ran};
 use crate::guide::Drawn;
 use crate::lists::Lists;
 use crate::report::report;
-use crate::trail::Trail;
 use refusal::Refusal;
 use sheet::table::Sheet;
 use source::Source;
@@ -23,7 +22,7 @@ pub fn draw<S: Store, R: Source>(
     fuel: u8,
     source: &mut R,
     lists: &mut Lists<'_>,
-) -> Result<Drew, Refusal>
+) -> Result<Ran<Option<Ended>>, Refusal>
     ensures same { Stays S.width S.starting store.old store.new }
     ensures current { Leaves (S.starting store.old) (S.current store.old)
         (S.current store.new) result }
@@ -34,14 +33,7 @@ pub fn draw<S: Store, R: Source>(
         (held lists.old) result (held lists.new) }
 {
     admit(sheet, store, fuel, 0, lists)?;
-    let mut trail = Trail {
-        picks: lists.picks,
-        widths: lists.widths,
-        at: 0,
-        guide: Drawn { source },
-    };
-    let end = along(sheet, store, fuel, lists.goals, lists.frames, &mut trail);
-    let length = trail.at;
-    let ended = report(end, sheet.field_count(), lists.mark);
-    Ok(Drew { ended, length })
+    let Ran { ended, length } = run(sheet, store, fuel, &mut Drawn { source }, lists);
+    let ended = report(ended, lists.mark);
+    Ok(Ran { ended, length })
 }

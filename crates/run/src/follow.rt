@@ -5,12 +5,11 @@ ghost use Rattle.run.specs.Lists.{held, SameLists};
 ghost use Rattle.store.specs.Rules.{Stays};
 
 use crate::admit::admit;
-use crate::along::along;
+use crate::along::run;
 use crate::answer::Ran;
 use crate::guide::Recorded;
 use crate::lists::Lists;
 use crate::report::report;
-use crate::trail::Trail;
 use refusal::Refusal;
 use sheet::table::Sheet;
 use store::Store;
@@ -32,17 +31,10 @@ pub fn follow<S: Store>(
         (held lists.old) result (held lists.new) }
 {
     admit(sheet, store, fuel, given, lists)?;
-    let mut trail = Trail {
-        picks: lists.picks,
-        widths: lists.widths,
-        at: 0,
-        guide: Recorded { given },
-    };
-    let end = along(sheet, store, fuel, lists.goals, lists.frames, &mut trail);
-    let length = trail.at;
+    let Ran { ended, length } = run(sheet, store, fuel, &mut Recorded { given }, lists);
     if length < given {
         return Err(Refusal::TraceUnfit);
     }
-    let ended = report(end, sheet.field_count(), lists.mark).ok_or(Refusal::TraceUnfit)?;
+    let ended = report(ended, lists.mark).ok_or(Refusal::TraceUnfit)?;
     Ok(Ran { ended, length })
 }

@@ -1,48 +1,12 @@
 // What tells a run its picks: entries recorded earlier, or the numbers of a source.
-ghost use Rattle.std.specs.Prelude.{◌≡◌, ℕ, suc, ◌+◌, ◌<◌, List, slice_set};
-ghost use Rattle.meaning.specs.Traces.{width as width_of};
-ghost use Rattle.meaning.specs.Draws.{drawn as drawn_by};
+ghost use Rattle.std.specs.Prelude.{◌≡◌, ℕ, suc, List, slice_set};
 ghost use Rattle.run.specs.Guides.{Guide as Ahead};
-ghost use Rattle.run.specs.Ways.{choice_of, Usable, TellsAt};
+ghost use Rattle.run.specs.Ways.{choice_of, TellsAt};
 ghost use Rattle.run.specs.Ahead.{recorded_ahead, drawn_ahead};
 ghost use Rattle.run.specs.Past.{recorded_past, drawn_past};
 
+use crate::choice::Choice;
 use source::Source;
-
-// A choice among so many numbers, or between two branches with their weights.
-#[derive(Clone, Copy, Debug, PartialEq, Eq)]
-pub(crate) enum Choice {
-    Among(u16),
-    Branch(u16, u16),
-}
-
-impl Choice {
-    // How many picks there are.
-    pub(crate) fn width(self) -> u16
-        ensures { result ≡ width_of (choice_of self) }
-    {
-        match self {
-            Choice::Among(count) => count,
-            Choice::Branch(_, _) => 2,
-        }
-    }
-
-    // The pick that a number draws.
-    fn drawn(self, number: u32) -> u16
-        requires { Usable self }
-        ensures { (result ≡ drawn_by number (choice_of self)) × (result < width_of (choice_of self)) }
-    {
-        match self {
-            Choice::Among(count) => (number % count as u32) as u16,
-            Choice::Branch(left, right) => {
-                if number % (left as u32 + right as u32) < left as u32 {
-                    return 0;
-                }
-                1
-            }
-        }
-    }
-}
 
 // One entry of both trace lists: a pick, and the width of its choice.
 #[derive(Clone, Copy, Debug, PartialEq, Eq)]
@@ -61,7 +25,6 @@ pub(crate) trait Guide {
 
     // The pick of a choice at that place of the trace lists, with the entry there; none where no pick is told.
     fn tell(&mut self, choice: Choice, at: usize, entry: Entry) -> Option<u16>
-        requires { Usable choice }
         ensures same { fixed self.new ≡ fixed self.old }
         ensures told { TellsAt (choice_of choice) at entry.pick entry.width (ahead self.old) result
             (ahead self.new) };
@@ -99,7 +62,7 @@ impl Guide for Recorded {
 }
 
 // The numbers of a source, one for each choice.
-#[derive(Drop)]
+#[derive(Debug, Drop)]
 pub(crate) struct Drawn<'a, R> {
     pub(crate) source: &'a mut R,
 }

@@ -5,6 +5,7 @@ pub mod admit;
 mod along;
 pub mod answer;
 mod argument;
+mod choice;
 mod compare;
 pub mod draw;
 mod finish;

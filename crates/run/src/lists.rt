@@ -4,9 +4,11 @@ ghost use Rattle.run.specs.Whole.{Enough};
 
 use crate::goal::{Frame, Goal};
 
-// Two trace lists, a list of goals, a list of frames, and a mark list. They stay the caller's own. Sheet, store and fuel
-// stay outside: a check reads the sheet alone, and the lists of one call serve the next with another store or fuel.
-#[derive(Drop)]
+// Two trace lists, a list of goals, a list of frames, and a mark list. They stay the caller's own. Picks and widths are
+// two slices, and not one of entries: a rule of the project, whose callers hold two trace lists. Sheet, store and
+// fuel stay outside: a check reads the sheet alone, and the lists of one call serve the next with another store or
+// fuel. No `PartialEq`: only the first entries of a list mean something, and how many is not told here.
+#[derive(Debug, Drop)]
 pub struct Lists<'a> {
     pub picks: &'a mut [u16],
     pub widths: &'a mut [u16],
@@ -16,8 +18,8 @@ pub struct Lists<'a> {
 }
 
 impl Lists<'_> {
-    // Whether they are long enough.
-    pub(crate) fn are_long(&self, fuel: u8, fields: usize, given: usize) -> bool
+    // Whether they are long enough for so much fuel, so many fields and so many given entries.
+    pub(crate) fn are_long_enough(&self, fuel: u8, fields: usize, given: usize) -> bool
         ensures { Enough result fuel fields given (held self.now) }
     {
         let calls = usize::from(fuel) + 1;

@@ -10,6 +10,7 @@ ghost use Rattle.run.specs.Goals.{Passing, Passed, TermsOkay};
 use crate::argument::resolve;
 use crate::goal::Frame;
 use crate::guide::Guide;
+use crate::stop::Stop;
 use crate::trail::Trail;
 use sheet::node::Term;
 use store::Store;
@@ -20,7 +21,7 @@ pub(crate) fn pass<S: Store, G: Guide>(
     frame: Frame,
     terms: &[Term],
     trail: &mut Trail<'_, G>,
-) -> Option<Frame>
+) -> Result<Frame, Stop>
     requires frame { FrameOkay (S.width store.old) frame }
     requires okay { TermsOkay (S.width store.old) frame.count terms.now }
     requires some { some (S.width store.old) (S.current store.old) ≡ true }
@@ -36,5 +37,5 @@ pub(crate) fn pass<S: Store, G: Guide>(
     for term in terms {
         made.push(resolve(store, frame, *term, trail)?);
     }
-    Some(made)
+    Ok(made)
 }

@@ -1,15 +1,16 @@
 // One goal off the stack.
-ghost use Rattle.std.specs.Prelude.{◌≡◌, ℕ, ◌+◌, ◌<◌, ◌≤◌, true, ◌≢◌, length};
+ghost use Rattle.std.specs.Prelude.{◌≡◌, ℕ, ◌<◌, true, ◌≢◌, length};
 ghost use Rattle.marks.specs.Counted.{some};
 ghost use Rattle.meaning.specs.Terms.{wants as wants_of, rules_of};
 ghost use Rattle.sheet.specs.Sheets.{tree_of};
+ghost use Rattle.meaning.specs.Traces.{branch};
 ghost use Rattle.run.specs.Ways.{way_of, SameTrail, Room, Fits};
 ghost use Rattle.run.specs.Settling.{Narrows};
 ghost use Rattle.run.specs.Goals.{Fit, spot_of, SameStack, stack as goals_of, Solving, Sided, Turned};
 
-use crate::argument::argument;
-use crate::compare::compare;
-use crate::guide::{Choice, Guide};
+use crate::choice::{Choice, Weights};
+use crate::compare::{Relation, compare};
+use crate::guide::Guide;
 use crate::pass::pass;
 use crate::settle::settle;
 use crate::stack::Stack;
@@ -21,37 +22,36 @@ use sheet::table::Sheet;
 use store::Store;
 
 // The sides of a join to be matched: the left alone, or the left with that target and then the right.
-// Not an `Option<bool>`: `ask` answers none where no pick is told, and here none would be a side to match.
+// Not an `Option<bool>`: none would be a side to match.
 #[derive(Clone, Copy, Debug, PartialEq, Eq)]
 pub(crate) enum Sides {
     Left,
     Both(bool),
 }
 
-// The sides that a target asks for: where the join does not want it, a choice between two branches.
+// The sides that a target asks for: where the join does not want it, the choice between its two branches is made.
 fn ask<G: Guide>(
     word: Join,
-    left: u16,
-    right: u16,
+    weights: Weights,
     target: bool,
     trail: &mut Trail<'_, G>,
-) -> Option<Sides>
-    requires usable { 0 < left + right }
-    requires room { target ≢ wants_of word → Room 1 (way_of G.ahead trail.old).trail }
+) -> Result<Sides, Stop>
+    requires { target ≢ wants_of word → Room 1 (way_of G.ahead trail.old).trail }
     ensures lists { SameTrail G.fixed trail.old trail.new }
-    ensures left { Sided word left right target (way_of G.ahead trail.old) result (way_of G.ahead trail.new) }
+    ensures left { Sided word (branch weights.left weights.right) target
+        (way_of G.ahead trail.old) result (way_of G.ahead trail.new) }
 {
     if word.wants() == target {
-        return Some(Sides::Both(target));
+        return Ok(Sides::Both(target));
     }
-    let pick = trail.choose(Choice::Branch(left, right))?;
-    if pick == 0 {
-        return Some(Sides::Left);
+    if trail.choose(Choice::Branch(weights))? == 0 {
+        return Ok(Sides::Left);
     }
-    Some(Sides::Both(!target))
+    Ok(Sides::Both(!target))
 }
 
 // Takes the next goal off the stack and matches it, or puts its parts on the stack.
+// Indices are cast by `as`: with `usize::from` the proof did not close.
 pub(crate) fn step<S: Store, G: Guide>(
     sheet: &Sheet,
     store: &mut S,
@@ -81,17 +81,20 @@ pub(crate) fn step<S: Store, G: Guide>(
             Ok(())
         }
         Node::Compare(left, sign, right) => {
-            let kept = compare(store, frame, left, sign, right, goal.target, trail);
-            let live = kept.ok_or(Stop::Halted)?;
-            if live { Ok(()) } else { Err(Stop::DeadEnd) }
+            let sign = sign.aimed(goal.target);
+            compare(store, frame, Relation { left, sign, right }, trail)
         }
         Node::Pick(name, inner) => {
-            settle(store, argument(frame, name), trail).ok_or(Stop::Halted)?;
+            settle(store, frame.argument(name), trail)?;
             stack.push(goal.part(inner, goal.target));
             Ok(())
         }
         Node::Join(word, first, second, left, right) => {
-            match ask(word, first, second, goal.target, trail).ok_or(Stop::Halted)? {
+            let weights = Weights {
+                left: first,
+                right: second,
+            };
+            match ask(word, weights, goal.target, trail)? {
                 Sides::Left => {
                     stack.push(goal.part(left, goal.target));
                     Ok(())
@@ -104,7 +107,7 @@ pub(crate) fn step<S: Store, G: Guide>(
             }
         }
         Node::Call(rule, count, terms) => {
-            let passed = pass(store, frame, &terms[..count as usize], trail).ok_or(Stop::Halted)?;
+            let passed = pass(store, frame, &terms[..count as usize], trail)?;
             stack.enter(passed, sheet.rules[rule as usize].body, goal.target)
         }
     }

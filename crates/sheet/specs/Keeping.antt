@@ -5,10 +5,10 @@ use Rattle.formula.specs.declared.Join.TheVariants.{And, Or}
 use Rattle.formula.specs.Trees.{Formula, compare, call, negate, pick, join}
 use Rattle.sheet.specs.declared.node.Name.{Name}
 use Rattle.sheet.specs.declared.node.Name.TheVariants.{Field, Param}
-use Rattle.sheet.specs.declared.node.Shift.{Shift}
-use Rattle.sheet.specs.declared.node.Shift.TheVariants.{Up, Down}
-use Rattle.sheet.specs.declared.node.Term.{Term}
-use Rattle.sheet.specs.declared.node.Term.TheVariants.{Number, Bare, Moved}
+use Rattle.formula.specs.declared.term.Shift.{Shift}
+use Rattle.formula.specs.declared.term.Shift.TheVariants.{Up, Down}
+use Rattle.sheet.specs.Table.{SheetTerm}
+use Rattle.formula.specs.declared.term.Term.TheVariants.{Number, Bare, Moved}
 use Rattle.sheet.specs.declared.node.Node.{Node}
 use Rattle.sheet.specs.declared.node.Node.TheVariants.{Compare, Call, Not, Pick, Join}
 use Rattle.sheet.specs.declared.node.Range.{Range}
@@ -69,13 +69,13 @@ known_shift (Up n) = nat_le n 1023
 known_shift (Down n) = nat_le n 1023
 
 -- a term with a known name and a number of at most 1,023
-abbrev pub known_term : (fields params : ℕ) → Term → Bool
+abbrev pub known_term : (fields params : ℕ) → SheetTerm → Bool
 known_term fields params (Number n) = nat_le n 1023
 known_term fields params (Bare b) = known_name fields params b
 known_term fields params (Moved b s) = known_name fields params b && known_shift s
 
 -- so for each of some terms
-abbrev pub known_terms : (fields params : ℕ) → List Term → Bool
+abbrev pub known_terms : (fields params : ℕ) → List SheetTerm → Bool
 known_terms fields params [] = true
 known_terms fields params (t ∷ ts) = known_term fields params t && known_terms fields params ts
 
@@ -114,7 +114,8 @@ RangesKept fields ranges =
 abbrev pub LinesKept : ℕ → List Line → Type 0
 LinesKept rules lines =
     (l : ℕ) → l ≤ rules
-    → ((line_at lines l).params ≤ 4) × ((line_at lines l).start ≤ (line_at lines l).body) × ((line_at lines l).body < 256)
+    → ((line_at lines l).params ≤ 4) × ((line_at lines l).start ≤ (line_at lines l).body)
+    × ((line_at lines l).body < 256)
 
 -- the entry i is one of the line l
 abbrev pub Within : ℕ → List Line → (l i : ℕ) → Type 0

@@ -30,14 +30,9 @@ tree_of s = tree_of_parts s.ranges.items s.rules.items s.mark s.nodes
 abbrev pub lines_in : Sheet → List Line
 lines_in s = lines_of s.rules.items s.mark
 
--- one field 0 to 0, and the mark that the two numbers are equal
-abbrev pub comparing_tree : ℕ → ℕ → tree.Sheet
-comparing_tree left right =
-    tree.sheet (tree.range 0 0 ∷ []) [] (tree.compare (tree.num left) Equal (tree.num right))
-
 -- one field 0 to 0, and the mark `0 = 1`
 abbrev pub blank_tree : tree.Sheet
-blank_tree = comparing_tree 0 1
+blank_tree = tree.sheet (tree.range 0 0 ∷ []) [] (tree.compare (tree.num 0) Equal (tree.num 1))
 
 -- The rules of a sheet
 
@@ -112,7 +107,8 @@ pub record Kept (ranges : List tree.Range) (rules : List tree.Rule) (mark : tree
   pub few_params : (l : ℕ) → l < length rules → params_of (slice_index_or rules l no_rule) ≤ 4
   pub rules_kept :
       (l : ℕ) → l < length rules
-      → KeptLine (length ranges) rules (suc l) (params_of (slice_index_or rules l no_rule)) (body_of (slice_index_or rules l no_rule))
+      → KeptLine (length ranges) rules (suc l) (params_of (slice_index_or rules l no_rule))
+      (body_of (slice_index_or rules l no_rule))
   pub mark_kept : KeptLine (length ranges) rules (length rules) 0 mark
   pub few_formulas : sizes_of rules + size mark ≤ 256
 

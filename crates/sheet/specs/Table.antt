@@ -6,10 +6,9 @@ use Rattle.formula.specs.declared.Join.{Join as JoinWord}
 use Rattle.formula.specs.Trees as tree
 use Rattle.sheet.specs.declared.node.Name.{Name}
 use Rattle.sheet.specs.declared.node.Name.TheVariants.{Field, Param}
-use Rattle.sheet.specs.declared.node.Shift.{Shift}
-use Rattle.sheet.specs.declared.node.Shift.TheVariants.{Up, Down}
-use Rattle.sheet.specs.declared.node.Term.{Term}
-use Rattle.sheet.specs.declared.node.Term.TheVariants.{Number, Bare, Moved}
+use Rattle.formula.specs.declared.term.Term.{Term}
+use Rattle.formula.specs.declared.term.Term.TheVariants.{Number, Bare, Moved}
+pub use Rattle.formula.specs.Shifting.{shift_of}
 use Rattle.sheet.specs.declared.node.Node.{Node}
 use Rattle.sheet.specs.declared.node.Node.TheVariants.{Compare, Call, Not, Pick, Join}
 use Rattle.sheet.specs.declared.node.Range.{Range}
@@ -20,13 +19,12 @@ abbrev pub name_of : Name → tree.Name
 name_of (Field f) = tree.field f
 name_of (Param p) = tree.param p
 
--- `+` or `-` and a number
-abbrev pub shift_of : Shift → tree.Shift
-shift_of (Up n) = tree.up n
-shift_of (Down n) = tree.down n
+-- a term whose name is the number of a field or parameter
+abbrev pub SheetTerm : Type 0
+SheetTerm = Term Name
 
 -- a term
-abbrev pub term_of : Term → tree.Term
+abbrev pub term_of : SheetTerm → tree.Term
 term_of (Number n) = tree.num n
 term_of (Bare b) = tree.bare (name_of b)
 term_of (Moved b s) = tree.moved (name_of b) (shift_of s)
@@ -50,13 +48,13 @@ lines_of rules mark = rules ++ mark ∷ []
 -- Holds nodes i f: the entry i of the table holds the formula f, whose parts are held by entries before it
 pub data Holds (nodes : List Node) : ℕ → tree.Formula → Type 0 where
   a_comparison :
-      {i : ℕ} {c : Comparison} {t u : Term} {x y : tree.Term}
+      {i : ℕ} {c : Comparison} {t u : SheetTerm} {x y : tree.Term}
       → node_at nodes i ≡ Compare t c u
       → term_of t ≡ x
       → term_of u ≡ y
       → Holds nodes i (tree.compare x c y)
   a_call :
-      {i r n : ℕ} {ts : List Term} {xs : List tree.Term}
+      {i r n : ℕ} {ts : List SheetTerm} {xs : List tree.Term}
       → node_at nodes i ≡ Call r n ts
       → map term_of (take n ts) ≡ xs
       → Holds nodes i (tree.call r xs)

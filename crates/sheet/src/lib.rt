@@ -4,8 +4,8 @@
 pub mod node;
 pub mod table;
 
-ghost use Rattle.std.specs.Prelude.{◌≡◌, ◌≤◌, length};
-ghost use Rattle.sheet.specs.Sheets.{tree_of, comparing_tree, blank_tree, EverySheetKeeps, EntriesHold};
+ghost use Rattle.std.specs.Prelude.{◌≡◌, length};
+ghost use Rattle.sheet.specs.Sheets.{tree_of, blank_tree, EverySheetKeeps, EntriesHold};
 
 use arrayvec::ArrayVec;
 use formula::Comparison;
@@ -17,7 +17,14 @@ impl Sheet {
     pub fn blank() -> Sheet
         ensures { tree_of result ≡ blank_tree }
     {
-        Sheet::comparing(0, 1)
+        let mut ranges = ArrayVec::new();
+        ranges.push(Range::default());
+        Sheet {
+            ranges,
+            rules: ArrayVec::new(),
+            mark: Line::default(),
+            nodes: [Node::Compare(Term::Number(0), Comparison::Equal, Term::Number(1)); 256],
+        }
     }
 
     // The number of fields.
@@ -25,25 +32,6 @@ impl Sheet {
         ensures { result ≡ length self.now.ranges.items }
     {
         self.ranges.len()
-    }
-
-    // One field 0 to 0, and the mark `left = right`.
-    fn comparing(left: u16, right: u16) -> Sheet
-        requires { (left ≤ 1023) × (right ≤ 1023) }
-        ensures { tree_of result ≡ comparing_tree left right }
-    {
-        let mut ranges = ArrayVec::new();
-        ranges.push(Range { low: 0, high: 0 });
-        Sheet {
-            ranges,
-            rules: ArrayVec::new(),
-            mark: Line {
-                params: 0,
-                start: 0,
-                body: 0,
-            },
-            nodes: [Node::Compare(Term::Number(left), Comparison::Equal, Term::Number(right)); 256],
-        }
     }
 }
 

@@ -8,41 +8,13 @@ pub enum Name {
     Param(u8),
 }
 
-// `+` or `-` and a number.
-#[derive(Clone, Copy, PartialEq, Eq, Debug)]
-pub enum Shift {
-    Up(u16),
-    Down(u16),
-}
-
-impl Shift {
-    ghost use Rattle.std.specs.Prelude.{◌≡◌, ◌<◌};
-    ghost use Rattle.formula.specs.Trees.{shifted};
-    ghost use Rattle.sheet.specs.Table.{shift_of};
-
-    // The number that comes of another: `+` stops at 1,023 and `-` at 0.
-    pub fn apply(self, number: u16) -> u16
-        ensures moved { result ≡ shifted (shift_of self) number }
-        ensures small { number < 1024 → result < 1024 }
-    {
-        match self {
-            Shift::Up(by) => number.saturating_add(by).min(1023),
-            Shift::Down(by) => number.saturating_sub(by),
-        }
-    }
-}
-
-// A number, a name, or a name with `+` or `-` and a number.
-#[derive(Clone, Copy, PartialEq, Eq, Debug)]
-pub enum Term {
-    Number(u16),
-    Bare(Name),
-    Moved(Name, Shift),
-}
+// A term whose name is that of a field or a parameter, by its number.
+pub type Term = formula::term::Term<Name>;
 
 // A comparison; a call of a rule with so many of the terms; `not`, `pick` or a join of parts that stand before it
-// in the table. A join has the weights of its two sides. Parts go by their numbers, and a call's terms fill the front
-// of an array, since a sheet is fixed memory and no call allocates.
+// in the table. A join has the weights of its two sides, plain numbers as its parts are. Parts go by their numbers,
+// since a sheet is fixed memory and no call allocates. A call's terms are an array with a count, and no vector: the
+// table is made by repeating one node, so a node is copied, and a vector is not.
 #[derive(Clone, Copy, PartialEq, Eq, Debug)]
 pub enum Node {
     Compare(Term, Comparison, Term),

@@ -7,7 +7,8 @@ ghost use Rattle.sheet.specs.Table.{lines_of};
 use crate::node::{Line, Node, Range};
 use arrayvec::ArrayVec;
 
-#[derive(Drop)]
+// No equality is derived: entries past those of the lines mean nothing, and the same rules may stand at other entries.
+#[derive(Debug, Drop)]
 pub struct Sheet {
     pub ranges: ArrayVec<Range, 8>,
     pub rules: ArrayVec<Line, 16>,

@@ -1,9 +1,9 @@
 -- Counting the tokens of a text one by one.
-use Rattle.std.proofs.Common.{◌≡◌, ℕ, ◌+◌, Bool, cond, List, [], ◌∷◌, refl, arith}
+use Rattle.std.proofs.Common.{◌≡◌, ℕ, ◌+◌, Bool, cond, List, ◌∷◌, arith, rules}
 use Rattle.std.proofs.lemmas.List.Sums.{sum_by-cons}
 use Rattle.signs.specs.declared.counts.TokenCounts.{TokenCounts}
 use Rattle.signs.specs.declared.token.Placed.{Placed}
-use Rattle.signs.specs.Tokens.{Tok, word, number, sign, TokAt}
+use Rattle.signs.specs.Tokens.{Tok, TokAt}
 use Rattle.signs.specs.Cutting.{CutFrom}
 use Rattle.signs.specs.Answers.{spelt, placed, token_of, is_word, is_number, is_sign, count, Counts, NextToken, NoToken}
 use Rattle.signs.specs.Scanning.{OneMore}
@@ -16,20 +16,26 @@ pub record Rest (found : TokenCounts) (ts us : List TokAt) : Type 0 where
 
 -- whatever the text is cut into from here on, the whole text is cut into what was counted and that
 pub CountedOn : List ℕ → ℕ → TokenCounts → Type 0
-CountedOn text p found = (ts : List TokAt) → CutFrom text p ts → (us : List TokAt) × CutFrom text 0 us × Rest found ts us
+CountedOn text p found =
+    (ts : List TokAt) → CutFrom text p ts → (us : List TokAt) × CutFrom text 0 us × Rest found ts us
 
-pub none_counted : (text : List ℕ) (found : TokenCounts) → found.words ≡ 0 → found.numbers ≡ 0 → found.signs ≡ 0 → CountedOn text 0 found
+pub none_counted :
+    (text : List ℕ) (found : TokenCounts)
+    → found.words ≡ 0
+    → found.numbers ≡ 0
+    → found.signs ≡ 0
+    → CountedOn text 0 found
 unfolding CountedOn
 none_counted text found w n s ts c = (ts, c, record { words = omega arith; numbers = omega arith; signs = omega arith })
 
-count_cons : (test : Tok → Bool) (t : TokAt) (ts : List TokAt) → count test (t ∷ ts) ≡ cond (test (token_of t)) 1 0 + count test ts
+count_cons :
+    (test : Tok → Bool) (t : TokAt) (ts : List TokAt)
+    → count test (t ∷ ts) ≡ cond (test (token_of t)) 1 0 + count test ts
 count_cons test t ts = sum_by-cons (λ x. cond (test (token_of x)) 1 0) t ts
 
 -- a token is of one kind
 pub one_only : (t : Tok) → cond (is_word t) 1 0 + cond (is_number t) 1 0 + cond (is_sign t) 1 0 ≡ 1
-one_only (word w) = refl
-one_only (number n) = refl
-one_only (sign s) = refl
+one_only = search rules
 
 pub one_counted :
     (text : List ℕ) (p : ℕ) (t : Placed) (found more : TokenCounts)
@@ -56,14 +62,4 @@ pub all_counted :
     → CountedOn text p found
     → (us : List TokAt) × CutFrom text 0 us × Counts us found
 unfolding CountedOn
-all_counted text p found end so =
-    let s = so [] end.cut in
-    let r = s.2 in (
-      s.0,
-      s.1,
-      record {
-        words = omega (arith, r.words);
-        numbers = omega (arith, r.numbers);
-        signs = omega (arith, r.signs);
-      },
-    )
+all_counted = search rules

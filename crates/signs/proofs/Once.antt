@@ -1,11 +1,12 @@
 -- A text is cut in one way, as far as it can be cut; and tokens and gaps put together are the text again.
-use Rattle.std.proofs.Common.{◌≡◌, ℕ, ◌+◌, ◌<◌, true, List, [], ◌∷◌, ◌++◌, length, drop, sym, refl, ap, ◌∙◌, subst, arith}
+use Rattle.std.proofs.Common.{◌≡◌, ℕ, ◌+◌, ◌<◌, true, List, [], ◌∷◌, ◌++◌, length, drop, sym, refl, ap, ◌∙◌, subst, arith, rules}
+use Rattle.std.proofs.lemmas.Bool.{both_ways}
 use Rattle.std.proofs.lemmas.List.{length-append, length-drop}
 use Rattle.signs.specs.Bytes.{blank}
 use Rattle.signs.specs.Tokens.{Tok, TokAt, at, Takes, Within}
 use Rattle.signs.specs.Cutting.{Cut, stop, gap, token, FaultHere, nothing_begins, over_limit, Tokenized, Refused, too_long, not_cut}
 use Rattle.signs.specs.Laws.{Assembled, last_gap, next_token, PutTogether, OneVerdict}
-use Rattle.signs.proofs.Spelling.{clash, spelling_some, spelling_solid, same_first, takes_once}
+use Rattle.signs.proofs.Spelling.{spelling_some, spelling_solid, same_first, takes_once}
 
 -- Bytes are empty, begin with a blank, with a token within its limit, or with a fault: only one of these.
 
@@ -14,14 +15,15 @@ takes_some {bytes} {w} {rest} x = omega (arith, spelling_some x.spells, ap lengt
 
 blank_no_token : {b : ℕ} {bytes w rest : List ℕ} {t : Tok} → blank b ≡ true → Takes (b ∷ bytes) t w rest → ⊥
 blank_no_token {b} {bytes} {w} {rest} h x =
-    clash h (ap blank (same_first (b ∷ bytes) w rest x.split (spelling_some x.spells)) ∙ spelling_solid x.spells)
+    let same = same_first (b ∷ bytes) w rest x.split (spelling_some x.spells) in
+    both_ways _ (ap blank same ∙ spelling_solid x.spells) h
 
 pub fault_some : {bytes : List ℕ} {n : ℕ} → FaultHere bytes n → 0 < length bytes
 fault_some (nothing_begins h none) = omega arith
 fault_some (over_limit x over) = takes_some x
 
 blank_no_fault : {b n : ℕ} {bytes : List ℕ} → blank b ≡ true → FaultHere (b ∷ bytes) n → ⊥
-blank_no_fault h (nothing_begins k none) = clash h k
+blank_no_fault h (nothing_begins k none) = both_ways _ k h
 blank_no_fault h (over_limit x over) = blank_no_token h x
 
 token_no_fault : {bytes w rest : List ℕ} {t : Tok} {n : ℕ} → Takes bytes t w rest → Within t w → FaultHere bytes n → ⊥
@@ -31,10 +33,7 @@ token_no_fault {w = w} x within (over_limit {w = v} {t = u} y over) =
     over (subst (λ z. Within z v) s.tokens (subst (Within _) s.spellings within))
 
 fault_once : {bytes : List ℕ} {m n : ℕ} → FaultHere bytes m → FaultHere bytes n → m ≡ n
-fault_once (nothing_begins h none) (nothing_begins k none') = refl
-fault_once (nothing_begins h none) (over_limit {w = w} {rest = rest} {t = t} y over) = absurd (none t w rest y.split y.spells)
-fault_once (over_limit {w = w} {rest = rest} {t = t} y over) (nothing_begins h none) = absurd (none t w rest y.split y.spells)
-fault_once (over_limit x over) (over_limit y over') = refl
+fault_once = search rules
 
 -- where cutting ends: at the end of the text, or at a fault
 pub data Ends : List ℕ → Type 0 where
@@ -126,7 +125,11 @@ one_verdict_lem text = record {
 -- tokens and gaps put together
 
 -- one blank more before what is assembled
-blank_before : {p b : ℕ} {bytes : List ℕ} {ts : List TokAt} → blank b ≡ true → Assembled (p + 1) bytes ts → Assembled p (b ∷ bytes) ts
+blank_before :
+    {p b : ℕ} {bytes : List ℕ} {ts : List TokAt}
+    → blank b ≡ true
+    → Assembled (p + 1) bytes ts
+    → Assembled p (b ∷ bytes) ts
 blank_before {b = b} h (last_gap g o) = last_gap (b ∷ g) (h, o)
 blank_before {p} {b} h (next_token g w rest {t = t} {ts = us} o s a) =
     let n : p + 1 + length g ≡ p + length (b ∷ g) = omega arith in
@@ -139,8 +142,9 @@ assembled (gap h c) = blank_before h (assembled c)
 assembled {p} (token {bytes = bytes} {w = w} {after = after} {t = t} {ts = us} x within c) =
     let none : List ℕ = [] in
     let n : p ≡ p + length none = omega arith in
-    let a = next_token {p = p} none w after tt x.spells (subst (λ k. Assembled (k + length w) after us) n (assembled c)) in
-    subst (λ l. Assembled p l (at t p ∷ us)) (sym x.split) (subst (λ k. Assembled p (w ++ after) (at t k ∷ us)) (sym n) a)
+    let rest = subst (λ k. Assembled (k + length w) after us) n (assembled c) in
+    subst (λ l. Assembled p l (at t p ∷ us)) (sym x.split)
+    (subst (λ k. Assembled p (w ++ after) (at t k ∷ us)) (sym n) (next_token {p = p} none w after tt x.spells rest))
 
 pub put_together : (text : List ℕ) → PutTogether text
 put_together text ts a = assembled a.cut

@@ -1,62 +1,43 @@
 -- From places in a text to the bytes that begin there.
-use Rattle.std.proofs.Common.{◌≡◌, ℕ, ◌+◌, ◌-◌, ◌*◌, ◌^◌, ◌<◌, ◌≤◌, Bool, true, false, List, [], ◌∷◌, length, get_or, take, drop, Some, None, sym, ap, ◌∙◌, subst, pow-suc, add-one, arith}
+use Rattle.std.proofs.Common.{◌≡◌, ℕ, ◌-◌, ◌<◌, ◌≤◌, Bool, true, false, List, [], ◌∷◌, length, get_or, take, drop, Some, None, sym, ap, ◌∙◌, subst₂, arith}
 use Rattle.std.proofs.ByRecursion.{All-from_get_or}
 use Rattle.std.proofs.lemmas.List.{take-append-drop, length-take-le, length-drop, get_or-take, take_at, take_all, drop_at, length-append}
 use Rattle.std.proofs.lemmas.List.Sums.{prefix_len-le-length, prefix_len_passes, prefix_len_stops}
 use Rattle.std.proofs.lemmas.List.Folds.{length-prefix_len}
 use Rattle.std.specs.List.{prefix_len, take_while}
 use Rattle.signs.specs.declared.token.Sign.{Sign}
-use Rattle.signs.specs.Bytes.{letter, digit, alphanumeric, blank, value}
-use Rattle.signs.specs.Tokens.{word, number, sign, sign_bytes, Takes}
+use Rattle.signs.specs.Bytes.{letter, digit, blank}
+use Rattle.signs.specs.Tokens.{sign, sign_bytes, Takes}
 use Rattle.signs.specs.Cutting.{FaultHere, nothing_begins}
 use Rattle.signs.specs.Scanning.{part, LongestSign}
-use Rattle.signs.proofs.Spelling.{Front, takes_word, takes_number, takes_sign, no_spelling}
-
-pub length_part : (text : List ℕ) (p q : ℕ) → p ≤ q → q ≤ length text → length (part text p q) ≡ q - p
-length_part text p q h k = length-take-le (q - p) (drop p text) (omega (arith, length-drop p text))
+use Rattle.signs.proofs.Spelling.{Front, takes_sign, no_spelling}
 
 -- the bytes from p to the end
 pub part_last : (text : List ℕ) (p : ℕ) → part text p (length text) ≡ drop p text
 part_last text p = take_all (length text - p) (drop p text) (omega (arith, length-drop p text))
 
--- one digit more keeps a number below the next power of ten
-pub digit_more : (a b n d : ℕ) → b ≡ a + 1 → n < 10 ^ a → d < 10 → n * 10 + d < 10 ^ b
-digit_more a b n d e h k = rw (e, add-one, pow-suc) (omega arith)
-
 -- the longest front of the bytes that passes
 
-pub front_within : (test : ℕ → Bool) (bytes : List ℕ) (n : ℕ) → n ≡ length (take_while test bytes) → n ≤ length bytes
-front_within test bytes n counted = omega (arith, counted, length-prefix_len test bytes, prefix_len-le-length test bytes)
+module _ (test : ℕ → Bool) (bytes : List ℕ) (n : ℕ) (counted : n ≡ length (take_while test bytes)) where
+  pub front_within : n ≤ length bytes
+  front_within = omega (arith, counted, length-prefix_len test bytes, prefix_len-le-length test bytes)
 
-pub front_at : (test : ℕ → Bool) (bytes : List ℕ) (n : ℕ) → n ≡ length (take_while test bytes) → Front test bytes (take n bytes) (drop n bytes)
-front_at test bytes n counted =
-    let e : n ≡ prefix_len test bytes = counted ∙ length-prefix_len test bytes in
-    let long = length-take-le n bytes (front_within test bytes n counted) in
-    record {
-      split = sym (take-append-drop n bytes);
-      all = All-from_get_or (λ b. test b ≡ true) (take n bytes) 0
-          (λ i h. ap test (get_or-take n bytes i 0 (omega (arith, long))) ∙ prefix_len_passes test bytes i 0 (omega (arith, long, e)));
-      stops = λ h. ap (λ k. test (get_or bytes k 0)) (long ∙ e) ∙ prefix_len_stops test bytes 0 (omega (arith, long, e));
-    }
+  pub front_long : length (take n bytes) ≡ n
+  front_long = length-take-le n bytes front_within
+
+  pub front_at : Front test bytes (take n bytes) (drop n bytes)
+  front_at =
+      let e : n ≡ prefix_len test bytes = counted ∙ length-prefix_len test bytes in
+      record {
+        split = sym (take-append-drop n bytes);
+        all = All-from_get_or (λ b. test b ≡ true) (take n bytes) 0
+            (λ i h. ap test (get_or-take n bytes i 0 (omega (arith, front_long)))
+            ∙ prefix_len_passes test bytes i 0 (omega (arith, front_long, e)));
+        stops = λ h. ap (λ k. test (get_or bytes k 0)) (front_long ∙ e)
+            ∙ prefix_len_stops test bytes 0 (omega (arith, front_long, e));
+      }
 
 -- the token that the bytes begin with
-
-pub word_here :
-    (bytes : List ℕ) (n : ℕ)
-    → n ≡ length (take_while alphanumeric bytes)
-    → 0 < length bytes
-    → letter (get_or bytes 0 0) ≡ true
-    → Takes bytes (word (take n bytes)) (take n bytes) (drop n bytes)
-word_here bytes n counted h l = takes_word (front_at alphanumeric bytes n counted) h l
-
-pub number_here :
-    (bytes : List ℕ) (n : ℕ) {m : ℕ}
-    → n ≡ length (take_while digit bytes)
-    → 0 < length bytes
-    → digit (get_or bytes 0 0) ≡ true
-    → m ≡ value (take n bytes)
-    → Takes bytes (number m) (take n bytes) (drop n bytes)
-number_here bytes n counted h d e = takes_number (front_at digit bytes n counted) h d e
 
 pub sign_here :
     (bytes : List ℕ) (n : ℕ) (s : Sign)
@@ -73,7 +54,7 @@ sign_here bytes n s nl nd found e =
     let front : take n bytes ≡ w = ap (λ l. take n l) is ∙ take_at w rest n (sym e) in
     let back : drop n bytes ≡ rest = ap (λ l. drop n l) is ∙ drop_at w rest n (sym e) in (
       omega (arith, e, ap length is, length-append w rest),
-      subst (λ v. Takes bytes (sign s) v (drop n bytes)) (sym front) (subst (λ l. Takes bytes (sign s) w l) (sym back) t),
+      subst₂ (λ v l. Takes bytes (sign s) v l) (sym front) (sym back) t,
     )
 
 pub nothing_here :

@@ -1,28 +1,20 @@
 -- Spellings: what a token begins with, that one spelling is one token, and which is the longest.
-use Rattle.std.proofs.Common.{◌≡◌, ℕ, ◌<◌, ◌≤◌, Bool, true, false, cond, eqb, List, [], ◌∷◌, ◌++◌, length, get_or, sym, refl, ap, ◌∙◌, subst, ⊎_elim, arith}
+use Rattle.std.proofs.Common.{◌≡◌, ℕ, ◌<◌, ◌≤◌, Bool, true, false, cond, eqb, List, [], ◌∷◌, ◌++◌, length, get_or, take, sym, refl, ap, ◌∙◌, subst, ⊎_elim, arith, rules}
 use Rattle.std.proofs.str.Laws.{order}
+use Rattle.std.proofs.lemmas.Bool.{both_ways}
 use Rattle.std.proofs.lemmas.Bool.Decides.{nat_tests}
 use Rattle.std.proofs.ByRecursion.{All-get_or}
-use Rattle.std.proofs.lemmas.List.{length-append, get_or_append_left, append_cancel_left}
+use Rattle.std.proofs.lemmas.List.{length-append, get_or_append_left, append_cancel_left, take_at}
 use Rattle.formula.specs.declared.Comparison.TheVariants.{Equal, Differ, Less, AtMost, More, AtLeast}
 use Rattle.signs.specs.declared.token.Sign.{Sign}
 use Rattle.signs.specs.declared.token.Sign.TheVariants.{Open, Close, Comma, Semicolon, Colon, Plus, Minus, Compare}
 use Rattle.signs.specs.Bytes.{letter, digit, alphanumeric, blank, Only, value}
 use Rattle.signs.specs.Tokens.{Tok, word, number, sign, sign_bytes, Spells, a_word, a_number, a_sign, Takes}
 
-pub clash : {b : Bool} → b ≡ true → b ≡ false → ⊥
-clash p q = let z : ◌≡◌ {A = ℕ} 0 1 = cc in omega arith
-
 -- classes of bytes that have nothing in common
 
 letter_no_digit : (b : ℕ) → letter b ≡ true → digit b ≡ true → ⊥
 letter_no_digit b e f = grind (arith, nat_tests, e, f)
-
-letter_no_blank : (b : ℕ) → letter b ≡ true → blank b ≡ false
-letter_no_blank b e = grind (arith, nat_tests, e)
-
-digit_no_blank : (b : ℕ) → digit b ≡ true → blank b ≡ false
-digit_no_blank b e = grind (arith, nat_tests, e)
 
 letter_alphanumeric : (b : ℕ) → letter b ≡ true → alphanumeric b ≡ true
 letter_alphanumeric b e = grind (arith, nat_tests, e)
@@ -35,28 +27,16 @@ record Plain (b : ℕ) : Type 0 where
   no_digit : digit b ≡ false
   solid : blank b ≡ false
 
--- a sign has one byte or two
-data Sized (s : Sign) : Type 0 where
-  single : (b : ℕ) → Plain b → sign_bytes s ≡ b ∷ [] → Sized s
-  double : (b c : ℕ) → Plain b → sign_bytes s ≡ b ∷ c ∷ [] → Sized s
+-- what a sign's bytes begin with: one byte at least, and a plain one first
+record Begins (bs : List ℕ) : Type 0 where
+  some : 0 < length bs
+  plain : Plain (get_or bs 0 0)
 
-sized : (s : Sign) → Sized s
-sized Open = single _ (record { no_letter = refl; no_digit = refl; solid = refl }) refl
-sized Close = single _ (record { no_letter = refl; no_digit = refl; solid = refl }) refl
-sized Comma = single _ (record { no_letter = refl; no_digit = refl; solid = refl }) refl
-sized Semicolon = single _ (record { no_letter = refl; no_digit = refl; solid = refl }) refl
-sized Colon = single _ (record { no_letter = refl; no_digit = refl; solid = refl }) refl
-sized Plus = single _ (record { no_letter = refl; no_digit = refl; solid = refl }) refl
-sized Minus = single _ (record { no_letter = refl; no_digit = refl; solid = refl }) refl
-sized (Compare Equal) = single _ (record { no_letter = refl; no_digit = refl; solid = refl }) refl
-sized (Compare Differ) = double _ _ (record { no_letter = refl; no_digit = refl; solid = refl }) refl
-sized (Compare Less) = single _ (record { no_letter = refl; no_digit = refl; solid = refl }) refl
-sized (Compare AtMost) = double _ _ (record { no_letter = refl; no_digit = refl; solid = refl }) refl
-sized (Compare More) = single _ (record { no_letter = refl; no_digit = refl; solid = refl }) refl
-sized (Compare AtLeast) = double _ _ (record { no_letter = refl; no_digit = refl; solid = refl }) refl
+sign_begins : (s : Sign) → Begins (sign_bytes s)
+sign_begins = search rules
 
 pub sign_some : (s : Sign) → 0 < length (sign_bytes s)
-sign_some s = elim (sized s) [ single b p e ↦ omega (arith, ap length e) | double b c p e ↦ omega (arith, ap length e) ]
+sign_some s = (sign_begins s).some
 
 -- the sign back from its bytes
 back : List ℕ → Sign
@@ -70,31 +50,9 @@ back bs =
 
 back_is : (s : Sign) → back (sign_bytes s) ≡ s
 unfolding back
-back_is Open = refl
-back_is Close = refl
-back_is Comma = refl
-back_is Semicolon = refl
-back_is Colon = refl
-back_is Plus = refl
-back_is Minus = refl
-back_is (Compare Equal) = refl
-back_is (Compare Differ) = refl
-back_is (Compare Less) = refl
-back_is (Compare AtMost) = refl
-back_is (Compare More) = refl
-back_is (Compare AtLeast) = refl
+back_is = search rules
 
 -- what a spelling begins with
-
-first : List ℕ → ℕ
-first bytes = get_or bytes 0 0
-
-plain_first : (s : Sign) → Plain (get_or (sign_bytes s) 0 0)
-plain_first s =
-    elim (sized s) [
-      | single b p e ↦ subst Plain (sym (ap (λ l. get_or l 0 0) e)) p
-      | double b c p e ↦ subst Plain (sym (ap (λ l. get_or l 0 0) e)) p
-    ]
 
 -- the first byte of a spelling, by its token
 abbrev FirstOf : Tok → ℕ → Type 0
@@ -105,17 +63,13 @@ FirstOf (sign s) b = Plain b
 first_of : {t : Tok} {w : List ℕ} → Spells t w → FirstOf t (get_or w 0 0)
 first_of (a_word {b = b} e l o) = ap (λ l. letter (get_or l 0 0)) e ∙ l
 first_of (a_number {w = w} pos o e) = All-get_or (λ b. digit b ≡ true) w 0 0 pos o
-first_of (a_sign {s = s} e) = subst (λ l. Plain (get_or l 0 0)) (sym e) (plain_first s)
+first_of (a_sign {s = s} e) = subst (λ l. Plain (get_or l 0 0)) (sym e) (sign_begins s).plain
 
 pub spelling_some : {t : Tok} {w : List ℕ} → Spells t w → 0 < length w
-spelling_some (a_word e l o) = omega (arith, ap length e)
-spelling_some (a_number pos o e) = pos
-spelling_some (a_sign {s = s} e) = omega (arith, ap length e, sign_some s)
+spelling_some = search rules
 
 solid_of : (t : Tok) (b : ℕ) → FirstOf t b → blank b ≡ false
-solid_of (word w) b l = letter_no_blank b l
-solid_of (number n) b d = digit_no_blank b d
-solid_of (sign s) b p = p.solid
+solid_of = search rules
 
 -- a blank begins no token
 pub spelling_solid : {t : Tok} {w : List ℕ} → Spells t w → blank (get_or w 0 0) ≡ false
@@ -125,39 +79,25 @@ spelling_solid {t} {w} s = solid_of t (get_or w 0 0) (first_of s)
 pub same_first : (bytes w rest : List ℕ) → bytes ≡ w ++ rest → 0 < length w → get_or bytes 0 0 ≡ get_or w 0 0
 same_first bytes w rest e pos = ap (λ l. get_or l 0 0) e ∙ get_or_append_left w rest 0 0 pos
 
--- a spelling is a word's, a number's or a sign's, and not two of these
-word_no_number : {v w : List ℕ} {n : ℕ} → Spells (word v) w → Spells (number n) w → ⊥
-word_no_number {w = w} a b = letter_no_digit (get_or w 0 0) (first_of a) (first_of b)
-
-word_no_sign : {v w : List ℕ} {s : Sign} → Spells (word v) w → Spells (sign s) w → ⊥
-word_no_sign a b = clash (first_of a) (first_of b).no_letter
-
-number_no_sign : {w : List ℕ} {n : ℕ} {s : Sign} → Spells (number n) w → Spells (sign s) w → ⊥
-number_no_sign a b = clash (first_of a) (first_of b).no_digit
-
--- one spelling, one token
+-- one spelling, one token: the first byte is a letter, a digit or neither
 pub spelling_once : {t u : Tok} {w : List ℕ} → Spells t w → Spells u w → t ≡ u
-spelling_once (a_word e l o) (a_word f k q) = refl
-spelling_once (a_word e l o) (a_number {n = n} p q f) = absurd (word_no_number {n = n} (a_word e l o) (a_number p q f))
-spelling_once (a_word e l o) (a_sign {s = s} f) = absurd (word_no_sign {s = s} (a_word e l o) (a_sign f))
-spelling_once (a_number {n = n} p q f) (a_word e l o) = absurd (word_no_number {n = n} (a_word e l o) (a_number p q f))
-spelling_once (a_number p q f) (a_number p' q' f') = ap number (f ∙ sym f')
-spelling_once (a_number {n = n} p q f) (a_sign {s = s} e) = absurd (number_no_sign {n = n} {s = s} (a_number p q f) (a_sign e))
-spelling_once (a_sign {s = s} f) (a_word e l o) = absurd (word_no_sign {s = s} (a_word e l o) (a_sign f))
-spelling_once (a_sign {s = s} e) (a_number {n = n} p q f) = absurd (number_no_sign {n = n} {s = s} (a_number p q f) (a_sign e))
-spelling_once (a_sign {s = s} e) (a_sign {s = u} f) = ap sign (sym (back_is s) ∙ ap back (sym e ∙ f) ∙ back_is u)
+spelling_once {t = word v} {u = word u} (a_word e l o) (a_word f k q) = refl
+spelling_once {t = word v} {u = number n} {w = w} a b =
+    absurd (letter_no_digit (get_or w 0 0) (first_of a) (first_of b))
+spelling_once {t = word v} {u = sign s} a b = absurd (both_ways _ (first_of b).no_letter (first_of a))
+spelling_once {t = number n} {u = word v} {w = w} a b =
+    absurd (letter_no_digit (get_or w 0 0) (first_of b) (first_of a))
+spelling_once {t = number n} {u = number m} (a_number p q f) (a_number p' q' g) = ap number (f ∙ sym g)
+spelling_once {t = number n} {u = sign s} a b = absurd (both_ways _ (first_of b).no_digit (first_of a))
+spelling_once {t = sign s} {u = word v} a b = absurd (both_ways _ (first_of a).no_letter (first_of b))
+spelling_once {t = sign s} {u = number n} a b = absurd (both_ways _ (first_of a).no_digit (first_of b))
+spelling_once {t = sign s} {u = sign u} (a_sign e) (a_sign f) =
+    ap sign (sym (back_is s) ∙ ap back (sym e ∙ f) ∙ back_is u)
 
 -- two ways of beginning the same bytes, equally long, are the same
 same_front : (w v rest more : List ℕ) → w ++ rest ≡ v ++ more → length w ≡ length v → w ≡ v
-same_front [] [] rest more e n = refl
-same_front [] (y ∷ v) rest more e n = absurd (omega arith)
-same_front (x ∷ w) [] rest more e n = absurd (omega arith)
-same_front (x ∷ w) (y ∷ v) rest more e n =
-    let h : x ≡ y = cc in
-    let k : w ++ rest ≡ v ++ more = cc in
-    let m : length w ≡ length v = omega arith in
-    let r = same_front w v rest more k m in
-    cc
+same_front w v rest more e n =
+    sym (take_at w rest (length v) n) ∙ ap (take (length v)) e ∙ take_at v more (length v) refl
 
 -- the longest token is one
 pub record Same (t u : Tok) (w v rest more : List ℕ) : Type 0 where
@@ -171,7 +111,8 @@ pub takes_once :
     → Takes bytes u v more
     → Same t u w v rest more
 takes_once {bytes} {w} {v} {rest} {more} {t} {u} a b =
-    let n : length w ≡ length v = omega (arith, a.longest u v more b.split b.spells, b.longest t w rest a.split a.spells) in
+    let n : length w ≡ length v =
+    omega (arith, a.longest u v more b.split b.spells, b.longest t w rest a.split a.spells) in
     let f = same_front w v rest more (sym a.split ∙ b.split) n in
     record {
       tokens = spelling_once a.spells (subst (Spells u) (sym f) b.spells);
@@ -199,13 +140,14 @@ front_longest {test} {bytes} {w} {rest} v more f e o =
     let m = ap length e in
     let passes = All-get_or (λ b. test b ≡ true) v (length w) 0 h o in
     let same = ap (λ l. test (get_or l (length w) 0)) e ∙ ap test (get_or_append_left v more 0 (length w) h) in
-    absurd (clash (same ∙ passes) (f.stops (omega arith))))
+    absurd (both_ways _ (f.stops (omega arith)) (same ∙ passes)))
     (λ h. h)
     (order (length w) (length v))
 
 -- a spelling whose first byte is a letter is a word's, and one whose first byte is a digit a number's
 abbrev Begun : List ℕ → List ℕ → Type 0
-Begun bytes v = (letter (get_or bytes 0 0) ≡ true → Only alphanumeric v) × (digit (get_or bytes 0 0) ≡ true → Only digit v)
+Begun bytes v =
+    (letter (get_or bytes 0 0) ≡ true → Only alphanumeric v) × (digit (get_or bytes 0 0) ≡ true → Only digit v)
 
 spelling_only : {u : Tok} {v : List ℕ} → Spells u v → Begun v v
 spelling_only {v = v} (a_word {b = b} e l o) = (
@@ -215,8 +157,8 @@ spelling_only {v = v} (a_word {b = b} e l o) = (
 spelling_only {v = v} (a_number {n = n} p o e) =
     (λ h. absurd (letter_no_digit (get_or v 0 0) h (first_of (a_number {n = n} p o e))), λ h. o)
 spelling_only (a_sign {s = s} e) = (
-  λ h. absurd (clash h (first_of (a_sign {s = s} e)).no_letter),
-  λ h. absurd (clash h (first_of (a_sign {s = s} e)).no_digit),
+  λ h. absurd (both_ways _ (first_of (a_sign {s = s} e)).no_letter h),
+  λ h. absurd (both_ways _ (first_of (a_sign {s = s} e)).no_digit h),
 )
 
 -- the same of what begins the bytes
@@ -232,21 +174,28 @@ front_some :
     → 0 < length bytes
     → test (get_or bytes 0 0) ≡ true
     → 0 < length w
-front_some {test} {bytes} {w} f pos e =
-    ⊎_elim (λ h. h) (λ h. let z : length w ≡ 0 = omega arith in absurd (clash e (subst (λ n. test (get_or bytes n 0) ≡ false) z (f.stops (omega arith))))) (order 0 (length w))
+front_some = search rules
 
 word_spelt : (w : List ℕ) → 0 < length w → letter (get_or w 0 0) ≡ true → Only alphanumeric w → Spells (word w) w
 word_spelt [] pos l o = absurd (omega arith)
 word_spelt (b ∷ bs) pos l o = a_word refl l o.1
 
+-- where a read past the end gives 0, which is neither, a letter or a digit stands in front of some bytes
+letter_some : (bytes : List ℕ) → letter (get_or bytes 0 0) ≡ true → 0 < length bytes
+letter_some [] l = absurd cc
+letter_some (b ∷ bs) l = omega arith
+
+digit_some : (bytes : List ℕ) → digit (get_or bytes 0 0) ≡ true → 0 < length bytes
+digit_some [] d = absurd cc
+digit_some (b ∷ bs) d = omega arith
+
 pub takes_word :
     {bytes w rest : List ℕ}
     → Front alphanumeric bytes w rest
-    → 0 < length bytes
     → letter (get_or bytes 0 0) ≡ true
     → Takes bytes (word w) w rest
-takes_word {bytes} {w} {rest} f pos l =
-    let some = front_some f pos (letter_alphanumeric (get_or bytes 0 0) l) in
+takes_word {bytes} {w} {rest} f l =
+    let some = front_some f (letter_some bytes l) (letter_alphanumeric (get_or bytes 0 0) l) in
     record {
       split = f.split;
       spells = word_spelt w some (ap letter (sym (same_first bytes w rest f.split some)) ∙ l) f.all;
@@ -256,15 +205,16 @@ takes_word {bytes} {w} {rest} f pos l =
 pub takes_number :
     {bytes w rest : List ℕ} {n : ℕ}
     → Front digit bytes w rest
-    → 0 < length bytes
     → digit (get_or bytes 0 0) ≡ true
     → n ≡ value w
     → Takes bytes (number n) w rest
-takes_number {bytes} {w} {rest} f pos d e = record {
-  split = f.split;
-  spells = a_number (front_some f pos d) f.all e;
-  longest = λ u v more g s. front_longest v more f g ((begun bytes v more g s).1 d);
-}
+takes_number {bytes} {w} {rest} f d e =
+    let some = front_some f (digit_some bytes d) d in
+    record {
+      split = f.split;
+      spells = a_number some f.all e;
+      longest = λ u v more g s. front_longest v more f g ((begun bytes v more g s).1 d);
+    }
 
 -- bytes that begin with neither a letter nor a digit begin no word and no number
 sign_only :
@@ -275,9 +225,10 @@ sign_only :
     → Spells u v
     → (s : Sign) × (v ≡ sign_bytes s)
 sign_only bytes v more nl nd e (a_word f l o) =
-    absurd (clash (first_of (a_word f l o)) (ap letter (sym (same_first bytes v more e (spelling_some (a_word f l o)))) ∙ nl))
+    let same = same_first bytes v more e (spelling_some (a_word f l o)) in
+    absurd (both_ways _ (ap letter (sym same) ∙ nl) (first_of (a_word f l o)))
 sign_only bytes v more nl nd e (a_number {n = n} p o f) =
-    absurd (clash (first_of (a_number {n = n} p o f)) (ap digit (sym (same_first bytes v more e p)) ∙ nd))
+    absurd (both_ways _ (ap digit (sym (same_first bytes v more e p)) ∙ nd) (first_of (a_number {n = n} p o f)))
 sign_only bytes v more nl nd e (a_sign {s = s} f) = (s, f)
 
 pub takes_sign :
@@ -304,4 +255,6 @@ pub no_spelling :
     → bytes ≡ w ++ rest
     → Spells t w
     → ⊥
-no_spelling bytes nl nd none t w rest e p = let o = sign_only bytes w rest nl nd e p in none o.0 rest (e ∙ ap (λ l. l ++ rest) o.1)
+no_spelling bytes nl nd none t w rest e p =
+    let o = sign_only bytes w rest nl nd e p in
+    none o.0 rest (e ∙ ap (λ l. l ++ rest) o.1)

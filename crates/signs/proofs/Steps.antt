@@ -1,18 +1,17 @@
 -- From what stands at a place to what comes next in the text.
-use Rattle.std.proofs.Common.{◌≡◌, ℕ, ◌+◌, ◌-◌, ◌<◌, ◌≤◌, List, [], ◌∷◌, ◌++◌, length, get_or, take, drop, false, Result, Ok, Err, refl, sym, ap, ◌∙◌, subst, arith}
+use Rattle.std.proofs.Common.{◌≡◌, ℕ, ◌+◌, ◌<◌, ◌≤◌, List, [], ◌∷◌, ◌++◌, length, get_or, take, drop, false, Ok, Err, sym, ap, ◌∙◌, subst, arith}
 use Rattle.std.proofs.lemmas.List.{drop_all, drop-drop, get_or-drop, length-drop, length-take-le}
 use Rattle.std.specs.List.{take_while}
 use Rattle.refusal.specs.declared.Fault.{Fault}
 use Rattle.refusal.specs.declared.Refusal.{Refusal}
 use Rattle.refusal.specs.Table as table
 use Rattle.signs.specs.declared.cut.Leading.{Leading}
-use Rattle.signs.specs.declared.token.Placed.{Placed}
 use Rattle.signs.specs.Bytes.{blank, Only}
-use Rattle.signs.specs.Tokens.{TokAt, at, Takes, Within}
+use Rattle.signs.specs.Tokens.{TokAt, at, Takes}
 use Rattle.signs.specs.Cutting.{Cut, stop, gap, token, FaultHere}
-use Rattle.signs.specs.Answers.{spelt, placed, NextToken, NoToken, NextFault}
+use Rattle.signs.specs.Answers.{spelt, NextToken, NoToken, NextFault}
 use Rattle.signs.specs.Scanning.{part, Leads}
-use Rattle.signs.proofs.Scans.{front_at, front_within, length_part, part_last}
+use Rattle.signs.proofs.Scans.{front_at, front_long, part_last}
 use Rattle.signs.proofs.Once.{Ends, at_end, at_fault, gap_back, token_back, cut_once, fault_some}
 
 moved : {p q : ℕ} {bytes rest : List ℕ} {ts : List TokAt} → p ≡ q → Cut p bytes ts rest → Cut q bytes ts rest
@@ -52,7 +51,7 @@ reached text p n h counted =
     let f = front_at blank bytes n here in
     let gap = take n bytes in
     let after = drop-drop n p text in
-    let far : p + length gap ≡ p + n = omega (arith, length-take-le n bytes (front_within blank bytes n here)) in
+    let far : p + length gap ≡ p + n = omega (arith, front_long blank bytes n here) in
     record {
       from = omega arith;
       on = λ ts rest c.
@@ -72,7 +71,7 @@ pub solid_there :
 solid_there text p n counted more =
     let bytes = drop p text in
     let here = counted ∙ ap (λ l. length (take_while blank l)) (part_last text p) in
-    let long = length-take-le n bytes (front_within blank bytes n here) in
+    let long = front_long blank bytes n here in
     let at_n : n + 0 ≡ length (take n bytes) = omega (arith, long) in
     ap (λ l. blank (get_or l 0 0)) (part_last text (p + n) ∙ sym (drop-drop n p text))
     ∙ ap blank (get_or-drop n bytes 0 0 ∙ ap (λ k. get_or bytes k 0) at_n)
@@ -91,59 +90,32 @@ here text p h = record { from = omega arith; on = λ ts rest c. c; back = λ ts 
 pub past_end : (text : List ℕ) (p : ℕ) → length text ≤ p → NoToken text p
 past_end text p h = no_token text p p (here text p h) h
 
--- the token that stands at place p, or the fault there
-abbrev Stands : List ℕ → ℕ → Result Placed Fault → Type 0
-Stands text p (Ok t) =
-    (t.place ≡ p)
-    × (t.end ≤ length text)
-    × (p < t.end)
-    × Takes (drop p text) (spelt t.token) (part text p t.end) (drop t.end text)
-    × Within (spelt t.token) (part text p t.end)
-Stands text p (Err f) = (f.place ≡ p) × FaultHere (drop p text) (table.number f.refusal)
-
--- what leads the rest of the text stands in the text
-stands : (text : List ℕ) (b : ℕ) (l : Leading) → b ≤ length text → Leads (part text b (length text)) (Ok l)
-    → Stands text b (Ok (record { token = l.token; place = b; end = b + l.size }))
-stands text b l h leads =
-    let k = subst (λ x. Leads x (Ok l)) (part_last text b) leads in
-    let bytes = drop b text in
-    let same : l.size ≡ b + l.size - b = omega arith in
-    let w : take l.size bytes ≡ part text b (b + l.size) = ap (λ n. take n bytes) same in
-    let long = length-drop b text in (
-      refl,
-      omega (arith, long, k.0),
-      omega (arith, k.1),
-      subst (λ v. Takes bytes (spelt l.token) v (drop (b + l.size) text)) w
-          (subst (λ r. Takes bytes (spelt l.token) (take l.size bytes) r) (drop-drop l.size b text) k.2),
-      subst (Within (spelt l.token)) w k.3,
-    )
-
 -- what stands at the place that blanks lead to
-stands_follows : (text : List ℕ) (p b : ℕ) (t : Placed) → Reached text p b → Stands text b (Ok t) → NextToken text p t
-stands_follows text p b t r s =
-    let n : b + length (part text b t.end) ≡ t.end = omega (arith, length_part text b t.end (omega (arith, s.2)) s.1, s.2) in
-    let put : (ts : List TokAt) (rest : List ℕ) → Cut t.end (drop t.end text) ts rest → Cut p (drop p text) (placed t ∷ ts) rest =
-    λ ts rest c. r.on (placed t ∷ ts) rest
-    (subst (λ k. Cut b (drop b text) (at (spelt t.token) k ∷ ts) rest) (sym s.0)
-    (token s.3 s.4 (moved (sym n) c))) in
-    record {
-      after = omega (arith, s.0, r.from);
-      some = omega (arith, s.0, s.2);
-      inside = s.1;
-      onward = λ ts c. put ts [] c;
-      only = λ ts c.
-          let back = token_back s.3 s.4 at_end (r.back ts [] at_end c) in
-          (back.0, back.1 ∙ ap (λ k. at (spelt t.token) k ∷ back.0) (sym s.0), moved n back.2);
-      refused = λ m q x. record { before = placed t ∷ x.before; cut = put x.before (drop q text) x.cut; fault = x.fault };
-    }
-
 pub token_follows :
     (text : List ℕ) (p b : ℕ) (l : Leading)
     → Reached text p b
     → b ≤ length text
     → Leads (part text b (length text)) (Ok l)
     → NextToken text p (record { token = l.token; place = b; end = b + l.size })
-token_follows text p b l r h leads = stands_follows text p b _ r (stands text b l h leads)
+token_follows text p b l r h leads =
+    let k = subst (λ x. Leads x (Ok l)) (part_last text b) leads in
+    let bytes = drop b text in
+    let end = b + l.size in
+    let here = at (spelt l.token) b in
+    let takes = subst (λ x. Takes bytes (spelt l.token) (take l.size bytes) x) (drop-drop l.size b text) k.2 in
+    let n : b + length (take l.size bytes) ≡ end = omega (arith, length-take-le l.size bytes k.0) in
+    let put :
+    (ts : List TokAt) (rest : List ℕ) → Cut end (drop end text) ts rest → Cut p (drop p text) (here ∷ ts) rest =
+    λ ts rest c. r.on (here ∷ ts) rest (token takes k.3 (moved (sym n) c)) in
+    record {
+      after = r.from;
+      some = omega (arith, k.1);
+      inside = omega (arith, length-drop b text, k.0);
+      onward = λ ts c. put ts [] c;
+      only = λ ts c.
+          let back = token_back takes k.3 at_end (r.back ts [] at_end c) in (back.0, back.1, moved n back.2);
+      refused = λ m q x. record { before = here ∷ x.before; cut = put x.before (drop q text) x.cut; fault = x.fault };
+    }
 
 pub fault_follows :
     (text : List ℕ) (p b : ℕ) (f : Fault) (e : Refusal)

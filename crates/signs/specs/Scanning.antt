@@ -1,5 +1,5 @@
 -- What the inner functions of the cutter promise each other; no public call cites this file.
-use Rattle.std.specs.Prelude.{◌≡◌, ℕ, ◌+◌, ◌<◌, ◌≤◌, Bool, cond, List, ◌++◌, length, take, drop, Some, None, Option, Ok, Err, Result, ◌≢◌, slice_range}
+use Rattle.std.specs.Prelude.{◌≡◌, ℕ, ◌+◌, ◌<◌, ◌≤◌, Bool, false, cond, List, ◌++◌, length, take, drop, Some, None, Option, Ok, Err, Result, ◌≢◌, slice_index, slice_range}
 use Rattle.refusal.specs.declared.Refusal.{Refusal}
 use Rattle.refusal.specs.Table as table
 use Rattle.signs.specs.declared.byte.Class.{Class}
@@ -23,9 +23,15 @@ has Alphanumeric = alphanumeric
 abbrev pub part : List ℕ → ℕ → ℕ → List ℕ
 part text p q = slice_range text p q
 
+-- the bytes begin with one that is no blank
+abbrev pub BeginsSolid : List ℕ → Type 0
+BeginsSolid bytes = (0 < length bytes) × (blank (slice_index bytes 0) ≡ false)
+
 -- the longest sign that begins the bytes, or none where no sign does
 abbrev pub LongestSign : List ℕ → Option Sign → Type 0
-LongestSign bytes (Some s) = (rest : List ℕ) × (bytes ≡ sign_bytes s ++ rest) × ((h : Sign) (more : List ℕ) → bytes ≡ sign_bytes h ++ more → length (sign_bytes h) ≤ length (sign_bytes s))
+LongestSign bytes (Some s) =
+    (rest : List ℕ) × (bytes ≡ sign_bytes s ++ rest)
+    × ((h : Sign) (more : List ℕ) → bytes ≡ sign_bytes h ++ more → length (sign_bytes h) ≤ length (sign_bytes s))
 LongestSign bytes None = (s : Sign) (rest : List ℕ) → bytes ≢ sign_bytes s ++ rest
 
 -- one token more is counted

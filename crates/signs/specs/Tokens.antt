@@ -58,7 +58,8 @@ pub data Spells : Tok → List ℕ → Type 0 where
       → w ≡ sign_bytes s
       → Spells (sign s) w
 
--- Takes bytes t w rest: of all that begins the bytes and spells a token, w is the longest; it spells t, and rest is left
+-- Takes bytes t w rest: of all that begins the bytes and spells a token, w is the longest; it spells t, and rest is
+-- left
 pub record Takes (bytes : List ℕ) (t : Tok) (w rest : List ℕ) : Type 0 where
   pub split : bytes ≡ w ++ rest
   pub spells : Spells t w

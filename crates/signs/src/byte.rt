@@ -4,7 +4,7 @@ ghost use Rattle.std.specs.List.{take_while};
 ghost use Rattle.signs.specs.Scanning.{has};
 
 // An enum and no closure of a byte, since the contracts name a class's test by `has`.
-#[derive(Clone, Copy)]
+#[derive(Clone, Copy, PartialEq, Eq, Debug)]
 pub(crate) enum Class {
     Blank,
     Letter,

@@ -1,9 +1,9 @@
 // The token that comes next in a text.
-ghost use Rattle.std.specs.Prelude.{◌≡◌, ◌<◌, ◌≤◌, true, false, length, slice_index};
-ghost use Rattle.signs.specs.Bytes.{letter, digit, blank, value, Only};
+ghost use Rattle.std.specs.Prelude.{◌≡◌, ◌≤◌, true, false, length, slice_index};
+ghost use Rattle.signs.specs.Bytes.{letter, digit, value, Only};
 ghost use Rattle.signs.specs.Tokens.{sign_bytes};
 ghost use Rattle.signs.specs.Answers.{Follows};
-ghost use Rattle.signs.specs.Scanning.{Leads, LongestSign};
+ghost use Rattle.signs.specs.Scanning.{BeginsSolid, Leads, LongestSign};
 
 use crate::byte::Class;
 use crate::token::{Placed, Sign, Token};
@@ -21,18 +21,13 @@ pub fn next<'a>(text: &'a [u8], from: usize) -> Result<Option<Placed<'a>>, Fault
     if place >= text.len() {
         return Ok(None);
     }
-    match first_token(&text[place..]) {
-        Ok(Leading { token, size }) => Ok(Some(Placed {
-            token,
-            place,
-            end: place + size,
-        })),
-        Err(refusal) => Err(refusal.at(place)),
-    }
+    let Leading { token, size } = first_token(&text[place..]).map_err(|refusal| refusal.at(place))?;
+    let end = place + size;
+    Ok(Some(Placed { token, place, end }))
 }
 
 // The token that some bytes begin with, and how many of them spell it.
-#[derive(Clone, Copy)]
+#[derive(Clone, Copy, PartialEq, Eq, Debug)]
 struct Leading<'a> {
     token: Token<'a>,
     size: usize,
@@ -40,8 +35,7 @@ struct Leading<'a> {
 
 // The token that the bytes begin with, where no blank is first.
 fn first_token<'a>(bytes: &'a [u8]) -> Result<Leading<'a>, Refusal>
-    requires some { 0 < length bytes.now }
-    requires solid { blank (slice_index bytes.now 0) ≡ false }
+    requires { BeginsSolid bytes.now }
     ensures { Leads bytes.now result }
 {
     let first = bytes[0];
@@ -57,8 +51,7 @@ fn first_token<'a>(bytes: &'a [u8]) -> Result<Leading<'a>, Refusal>
 // Not one function with `number`: that would take the class, the limit and the making of the token as parameters,
 // and a number has a second limit, on its value.
 fn word<'a>(bytes: &'a [u8]) -> Result<Leading<'a>, Refusal>
-    requires some { 0 < length bytes.now }
-    requires begins { letter (slice_index bytes.now 0) ≡ true }
+    requires { letter (slice_index bytes.now 0) ≡ true }
     ensures { Leads bytes.now result }
 {
     let size = Class::Alphanumeric.front(bytes);
@@ -70,8 +63,7 @@ fn word<'a>(bytes: &'a [u8]) -> Result<Leading<'a>, Refusal>
 }
 
 fn number<'a>(bytes: &'a [u8]) -> Result<Leading<'a>, Refusal>
-    requires some { 0 < length bytes.now }
-    requires begins { digit (slice_index bytes.now 0) ≡ true }
+    requires { digit (slice_index bytes.now 0) ≡ true }
     ensures { Leads bytes.now result }
 {
     let size = Class::Digit.front(bytes);
@@ -101,8 +93,7 @@ fn decimal(digits: &[u8]) -> u16
 }
 
 fn sign<'a>(bytes: &'a [u8]) -> Result<Leading<'a>, Refusal>
-    requires some { 0 < length bytes.now }
-    requires solid { blank (slice_index bytes.now 0) ≡ false }
+    requires solid { BeginsSolid bytes.now }
     requires wordless { letter (slice_index bytes.now 0) ≡ false }
     requires numberless { digit (slice_index bytes.now 0) ≡ false }
     ensures { Leads bytes.now result }

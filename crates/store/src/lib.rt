@@ -40,7 +40,7 @@ pub trait Store {
 
     // Removes exactly the marks whose field fails the comparison with the number. Refused, with nothing removed,
     // for a field that the store has not or a number above 1,023.
-    // Three parameters and no struct of them: no caller holds a comparison, each names its parts in the call.
+    // Three parameters and no struct of them: a caller has each from another place, and would make it for the one call.
     fn keep(&mut self, field: usize, sign: Comparison, number: u16) -> Result<(), Refusal>
         ensures same { Stays width starting self.old self.new }
         ensures left { Keeps (width self.old) (current self.old)

@@ -1,5 +1,6 @@
 // The open store: a table of eight rows, of which the first ones, one for each field, are in use.
-// The table keeps one size, and is no list with a length: a rule of the project sets the form that `row` lends from.
+// The table is a plain array with the number of rows in use beside it, and no vector: a rule of the project asks that
+// one row of an array is lent.
 ghost use Rattle.std.specs.Prelude.{◌≤◌};
 
 use crate::row::Row;

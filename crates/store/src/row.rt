@@ -37,7 +37,7 @@ impl Row {
     pub(crate) fn holds(&self, number: u16) -> bool
         ensures { result ≡ has self.now number }
     {
-        number < 1024 && self.present[number as usize]
+        number < 1024 && self.present[usize::from(number)]
     }
 
     // Adds a number; one above 1,023 is left out.
@@ -46,7 +46,7 @@ impl Row {
             ≡ (has self.old v || (nat_lt v 1024 && number == v)) }
     {
         if number < 1024 {
-            self.present[number as usize] = true;
+            self.present[usize::from(number)] = true;
         }
     }
 
@@ -73,7 +73,8 @@ impl Row {
     pub fn count(&self) -> usize
         ensures { result ≡ length (below (has self.now) 1024) }
     {
-        // A loop over the elements, since a filtered chain's `count` takes eight times its instructions.
+        // A loop over the elements, for the bar of speed in bench/FIGURES.md: the instructions of a run of `list` on
+        // free numbering, most of which count. The `count` of a filtered chain takes eight times those of this loop.
         let mut found = 0;
         for present in &self.present {
             if *present {
@@ -87,6 +88,8 @@ impl Row {
     pub fn value(&self, k: usize) -> Option<u16>
         ensures { Picks (below (has self.now) 1024) k result }
     {
-        (0..1024u16).filter(|v| self.present[*v as usize]).nth(k)
+        (0..1024u16)
+            .filter(|v| self.present[usize::from(*v)])
+            .nth(k)
     }
 }

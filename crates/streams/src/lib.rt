@@ -12,7 +12,8 @@ use std::io::{Read, Write};
 pub const TEXT_ROOM: usize = 32769;
 
 // Fills the buffer from its front until the input ends or the buffer is full, and answers how many bytes came,
-// as `Read::read` does: no slice of the buffer, which the caller has already.
+// as `Read::read` does: no slice of the buffer, which the caller has already. That the vector is made and cut by each
+// program, and not by a call of this crate, is a rule of the project: public calls allocate nothing.
 pub fn fill<R: Read>(input: &mut R, buffer: &mut [u8]) -> io::Result<usize>
     ensures { IfOk result (λ n. n ≤ length buffer.old) }
 {

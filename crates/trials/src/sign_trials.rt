@@ -1,5 +1,6 @@
-// Texts at each limit and one past it, with what proofreading prints of them.
-use signs::{Sign, Token};
+// Texts at each limit and one past it, with the line of their tokens or of their fault.
+use formula::Comparison;
+use signs::{Placed, Sign, Token};
 use std::test::Fail;
 
 struct Case<'a> {
@@ -75,63 +76,58 @@ const CASES: [Case<'static>; 16] = [
 ];
 
 // The line for a text, in the front of the buffer.
-fn told(text: &[u8], line: &mut [u8; 128]) -> usize {
+fn told(text: &[u8], line: &mut [u8; 128]) -> Result<usize, Fail> {
     let made = match signs::survey(text) {
         Ok(found) => lines::signs_line(found.words, found.numbers, found.signs, line),
         Err(fault) => lines::fault_line(fault, line),
     };
-    made.unwrap_or(0)
+    made.map_err(|_| Fail::new("a line"))
 }
 
 #[test]
-fn texts_at_their_limits(rt: HostRuntime) {
+fn texts_at_their_limits(rt: HostRuntime) -> Result<(), Fail> {
     for case in &CASES {
         let mut line = [0u8; 128];
-        let length = told(case.text, &mut line);
+        let length = told(case.text, &mut line)?;
         assert!(rt; length <= 128);
         assert!(rt; &line[0..length] == case.line);
     }
+    Ok(())
 }
 
 #[test]
 fn a_text_too_long(rt: HostRuntime) -> Result<(), Fail> {
     let text = vec![in rt.alloc(); b'?'; 32769]?;
     let mut line = [0u8; 128];
-    let length = told(&text, &mut line);
+    let length = told(&text, &mut line)?;
     assert!(rt; length <= 128);
     assert!(rt; &line[0..length] == b"fault 1 1 32768\n".as_slice());
-    let length = told(&text[0..32768], &mut line);
+    let length = told(&text[0..32768], &mut line)?;
     assert!(rt; length <= 128);
     assert!(rt; &line[0..length] == b"fault 1 2 0\n".as_slice());
     Ok(())
 }
 
+// The token that comes next, which is there.
+fn next_token(text: &[u8], from: usize) -> Result<Placed<'_>, Fail> {
+    signs::next(text, from)
+        .ok()
+        .flatten()
+        .ok_or_else(|| Fail::new("a token"))
+}
+
 #[test]
 fn tokens_have_places(rt: HostRuntime) -> Result<(), Fail> {
     let text = b" box <=7";
-    let Ok(Some(word)) = signs::next(text, 0) else {
-        return Err(Fail::new("a word"));
-    };
+    let word = next_token(text, 0)?;
+    assert!(rt; word.token == Token::Word(b"box"));
     assert!(rt; word.place == 1 && word.end == 4);
-    let Token::Word(spelling) = word.token else {
-        return Err(Fail::new("a word"));
-    };
-    assert!(rt; spelling == b"box".as_slice());
-    let Ok(Some(sign)) = signs::next(text, word.end) else {
-        return Err(Fail::new("a sign"));
-    };
+    let sign = next_token(text, word.end)?;
+    assert!(rt; sign.token == Token::Sign(Sign::Compare(Comparison::AtMost)));
     assert!(rt; sign.place == 5 && sign.end == 7);
-    assert!(rt;
-        matches!(
-            sign.token,
-            Token::Sign(Sign::Compare(formula::Comparison::AtMost))
-        )
-    );
-    let Ok(Some(number)) = signs::next(text, sign.end) else {
-        return Err(Fail::new("a number"));
-    };
-    assert!(rt; matches!(number.token, Token::Number(7)));
-    assert!(rt; matches!(signs::next(text, number.end), Ok(None)));
-    assert!(rt; matches!(signs::next(text, 1000), Ok(None)));
+    let number = next_token(text, sign.end)?;
+    assert!(rt; number.token == Token::Number(7));
+    assert!(rt; signs::next(text, number.end) == Ok(None));
+    assert!(rt; signs::next(text, 1000) == Ok(None));
     Ok(())
 }

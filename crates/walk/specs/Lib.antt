@@ -1,4 +1,3 @@
-pub mod Rooms
 pub mod Records
 pub mod Watching
 pub mod Calls

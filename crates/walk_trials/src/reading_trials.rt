@@ -1,30 +1,28 @@
 // The plain reading of single marks.
 use crate::sheets::{ODD, spelt};
-use reading::Verdict;
+use reading::{Reading, Verdict, check};
+use refusal::Refusal;
 use std::test::Fail;
 
-// What a check answers: the verdict by a letter and the calls, or the number of the refusal.
-fn told(mark: &[u16], fuel: u8) -> Result<(u8, u8), Fail> {
-    let sheet = spelt(ODD)?;
-    Ok(match reading::check(&sheet, mark, fuel) {
-        Ok(read) => match read.verdict {
-            Verdict::Allowed => (b'a', read.calls),
-            Verdict::NotAllowed => (b'n', read.calls),
-            Verdict::Spent => (b's', read.calls),
-        },
-        Err(refusal) => (b'r', refusal.number()),
-    })
+// What a check of the sheet of odd numbers answers.
+fn checked(mark: &[u16], fuel: u8) -> Result<Result<Reading, Refusal>, Fail> {
+    Ok(check(&spelt(ODD)?, mark, fuel))
+}
+
+// A verdict after so many calls.
+fn after(calls: u8, verdict: Verdict) -> Result<Reading, Refusal> {
+    Ok(Reading { verdict, calls })
 }
 
 #[test]
 fn odd_numbers(rt: HostRuntime) -> Result<(), Fail> {
-    assert!(rt; told(&[3], 2)? == (b'a', 2));
-    assert!(rt; told(&[3], 1)? == (b's', 1));
-    assert!(rt; told(&[3], 0)? == (b's', 0));
-    assert!(rt; told(&[2], 255)? == (b'n', 2));
-    assert!(rt; told(&[4], 255)? == (b'n', 0));
-    assert!(rt; told(&[1024], 255)? == (b'r', 16));
-    assert!(rt; told(&[3, 3], 255)? == (b'r', 16));
-    assert!(rt; told(&[], 255)? == (b'r', 16));
+    assert!(rt; checked(&[3], 2)? == after(2, Verdict::Allowed));
+    assert!(rt; checked(&[3], 1)? == after(1, Verdict::Spent));
+    assert!(rt; checked(&[3], 0)? == after(0, Verdict::Spent));
+    assert!(rt; checked(&[2], 255)? == after(2, Verdict::NotAllowed));
+    assert!(rt; checked(&[4], 255)? == after(0, Verdict::NotAllowed));
+    assert!(rt; checked(&[1024], 255)? == Err(Refusal::NotAMark));
+    assert!(rt; checked(&[3, 3], 255)? == Err(Refusal::NotAMark));
+    assert!(rt; checked(&[], 255)? == Err(Refusal::NotAMark));
     Ok(())
 }

@@ -8,18 +8,13 @@ use store::Store;
 use store::open::OpenStore;
 use withheld::layer::Withheld;
 
-// Whether the answer is the refusal of that number.
-fn refused(answer: Result<(), Refusal>, number: u8) -> bool {
-    answer.is_err_and(|refusal| refusal.number() == number)
-}
-
 #[test]
 fn open_rows(rt: HostRuntime) -> Result<(), Fail> {
     let mut store = OpenStore::new(&spelt(REGISTERED)?);
     assert!(rt; store.fields() == 2 && store.count(0) == 1024 && store.count(2) == 0);
     assert!(rt; store.value(0, 1023) == Some(1023) && store.value(0, 1024).is_none());
-    assert!(rt; refused(store.keep(2, Comparison::Equal, 0), 20));
-    assert!(rt; refused(store.keep(0, Comparison::Equal, 1024), 20));
+    assert!(rt; store.keep(2, Comparison::Equal, 0) == Err(Refusal::Outside));
+    assert!(rt; store.keep(0, Comparison::Equal, 1024) == Err(Refusal::Outside));
     assert!(rt; store.keep(1, Comparison::Less, 0).is_ok());
     assert!(rt; store.is_empty() && store.count(0) == 0);
     store.restart();
@@ -45,7 +40,7 @@ fn withheld_pairs(rt: HostRuntime) -> Result<(), Fail> {
     for _ in 1..32 {
         assert!(rt; layer.withhold(1, 5).is_ok());
     }
-    assert!(rt; refused(layer.withhold(1, 5), 21));
-    assert!(rt; refused(layer.withhold(2, 5), 20));
+    assert!(rt; layer.withhold(1, 5) == Err(Refusal::PairsFull));
+    assert!(rt; layer.withhold(2, 5) == Err(Refusal::Outside));
     Ok(())
 }

@@ -1,5 +1,6 @@
 // Walks to their end, and their refusals.
 use crate::sheets::{ODD, REGISTERED, SHELVES, spelt};
+use refusal::Refusal;
 use register::RegisterStore;
 use run::goal::{Frame, Goal};
 use run::lists::Lists;
@@ -11,13 +12,13 @@ use store::open::OpenStore;
 use walk::answer::Answer;
 use walk::start;
 
-// The answers of a whole walk with small fuel: two numbers each, a mark's or a sign for a run without one.
+// The answers of a whole walk with small fuel, each with the first two numbers of the mark list.
 fn walked<S: Store>(
     alloc: Global,
     sheet: &Sheet,
     store: &mut S,
     fuel: u8,
-) -> Result<Vec<u16>, Fail> {
+) -> Result<Vec<(Answer, u16, u16)>, Fail> {
     let mut picks = [7u16; 64];
     let mut widths = [7u16; 64];
     let mut goals = [Goal::NONE; 64];
@@ -33,13 +34,15 @@ fn walked<S: Store>(
     let mut walk = start(fuel);
     let mut told = Vec::new(alloc);
     for _ in 0..100 {
-        match walk.next(sheet, store, &mut lists) {
-            Ok(Answer::Finished) => return Ok(told),
-            Ok(Answer::Mark) => told.extend_from_slice(lists.mark.get(..2).unwrap_or(&[]))?,
-            Ok(Answer::DeadEnd) => told.extend_from_slice(&[2000, 0])?,
-            Ok(Answer::Spent) => told.extend_from_slice(&[3000, 0])?,
-            Err(_) => return Err(Fail::new("a refusal")),
+        let answer = walk
+            .next(sheet, store, &mut lists)
+            .map_err(|_| Fail::new("a refusal"))?;
+        if answer == Answer::Finished {
+            return Ok(told);
         }
+        let first = lists.mark.first().copied().unwrap_or(9);
+        let second = lists.mark.get(1).copied().unwrap_or(9);
+        told.push((answer, first, second))?;
     }
     Err(Fail::new("no end"))
 }
@@ -48,25 +51,37 @@ fn walked<S: Store>(
 fn whole_walks(rt: HostRuntime) -> Result<(), Fail> {
     let sheet = spelt(SHELVES)?;
     let told = walked(rt.alloc(), &sheet, &mut OpenStore::new(&sheet), 2)?;
-    assert!(rt; told.as_slice() == [2, 0, 2, 1, 2, 2, 1, 0, 3, 0].as_slice());
+    let marks = [
+        (Answer::Mark, 2, 0),
+        (Answer::Mark, 2, 1),
+        (Answer::Mark, 2, 2),
+        (Answer::Mark, 1, 0),
+        (Answer::Mark, 3, 0),
+    ];
+    assert!(rt; told.as_slice() == marks.as_slice());
     let sheet = spelt(ODD)?;
     let told = walked(rt.alloc(), &sheet, &mut OpenStore::new(&sheet), 2)?;
-    assert!(rt; told.len() == 10);
-    assert!(rt;
-        told[0] == 1 && told[2] == 2000 && told[4] == 2000 && told[6] == 3 && told[8] == 2000
-    );
+    let odd = [
+        (Answer::Mark, 1, 0),
+        (Answer::DeadEnd, 1, 0),
+        (Answer::DeadEnd, 1, 0),
+        (Answer::Mark, 3, 0),
+        (Answer::DeadEnd, 3, 0),
+    ];
+    assert!(rt; told.as_slice() == odd.as_slice());
     let told = walked(rt.alloc(), &sheet, &mut OpenStore::new(&sheet), 1)?;
-    assert!(rt; told.len() == 6);
-    assert!(rt; told[0] == 1 && told[2] == 3000 && told[4] == 3000);
+    let spent = [
+        (Answer::Mark, 1, 0),
+        (Answer::Spent, 1, 0),
+        (Answer::Spent, 1, 0),
+    ];
+    assert!(rt; told.as_slice() == spent.as_slice());
     let sheet = spelt(REGISTERED)?;
     let rows = [1, 0, 1, 0, 2, 5];
-    let told = walked(
-        rt.alloc(),
-        &sheet,
-        &mut RegisterStore::new(&sheet, &rows),
-        2,
-    )?;
-    assert!(rt; told.as_slice() == [1, 0, 2, 5].as_slice());
+    let mut store = RegisterStore::new(&sheet, &rows);
+    let told = walked(rt.alloc(), &sheet, &mut store, 2)?;
+    let marks = [(Answer::Mark, 1, 0), (Answer::Mark, 2, 5)];
+    assert!(rt; told.as_slice() == marks.as_slice());
     Ok(())
 }
 
@@ -91,7 +106,7 @@ fn lists_too_short(rt: HostRuntime) -> Result<(), Fail> {
             mark: &mut mark,
         },
     );
-    assert!(rt; matches!(short, Err(refusal::Refusal::ListTooShort)) && mark[0] == 9);
+    assert!(rt; short == Err(Refusal::ListTooShort) && mark[0] == 9);
     let mut lists = Lists {
         picks: &mut picks,
         widths: &mut widths,
@@ -101,14 +116,14 @@ fn lists_too_short(rt: HostRuntime) -> Result<(), Fail> {
     };
     let mut other = OpenStore::new(&spelt(ODD)?);
     let differ = walk.next(&sheet, &mut other, &mut lists);
-    assert!(rt; matches!(differ, Err(refusal::Refusal::FieldsDiffer)) && lists.mark[0] == 9);
+    assert!(rt; differ == Err(Refusal::FieldsDiffer) && lists.mark[0] == 9);
     let first = walk.next(&sheet, &mut store, &mut lists);
-    assert!(rt; matches!(first, Ok(Answer::Mark)) && lists.mark[0] == 2 && lists.mark[1] == 0);
+    assert!(rt; first == Ok(Answer::Mark) && lists.mark[0] == 2 && lists.mark[1] == 0);
     assert!(rt; walk.tally().issued == 1);
     match walk.close() {
         Ok(_) => Err(Fail::new("closed before its end")),
         Err(kept) => {
-            assert!(rt; kept.refusal.number() == 15 && kept.walk.tally().issued == 1);
+            assert!(rt; kept.refusal == Refusal::NotFinished && kept.walk.tally().issued == 1);
             Ok(())
         },
     }

@@ -30,13 +30,17 @@ loop-number-preserved c = record {
       c.number-in-loop-number.ensures.same_buffer ∙ c.bytes.ensures.same_buffer ∙ c.loop-number.invariant.same_buffer;
 }
 
-pub returns-clause-put : goal.returns-clause-put
-returns-clause-put c =
+pub returns : goal.returns
+returns c =
     let others =
     put_all slashed c.in-Some.others.now c.loop-number.number-index c.loop-number-test.false
     c.loop-number.invariant.put in
     let before = c.args.cursor.now in
     let after = c.loop-number.cursor in
-    subst (λ ns. Put before.out.now before.at (parted ns) after.out.now after.at)
-    (sym c.in-Some.ensures.cases.0)
-    (put_put c.number.ensures.put others)
+    record {
+      put =
+          subst (λ ns. Put before.out.now before.at (parted ns) after.out.now after.at)
+          (sym c.in-Some.ensures.cases.0)
+          (put_put c.number.ensures.put others);
+      same_buffer = c.loop-number.invariant.same_buffer ∙ c.number.ensures.same_buffer;
+    }

@@ -5,4 +5,4 @@ use Rattle.names.proofs.declared.check_names.Given as goal
 abbrev pub invariant-loop-k : goal.invariant-loop-k
 invariant-loop-k l =
     (i : ℕ) → i < l.k
-    → ParamTaken l.scope.text.now l.scope.fields.now l.scope.rules.now l.own (take i l.scope.params.now) (get_or l.scope.params.now i no_word) → ⊥
+    → ParamTaken l.scope l.own (take i l.scope.params.now) (get_or l.scope.params.now i no_word) → ⊥

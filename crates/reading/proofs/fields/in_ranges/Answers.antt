@@ -4,9 +4,6 @@ use Rattle.meaning.specs.Reading.{ranged}
 use Rattle.reading.proofs.Marks.{ranged_as}
 use Rattle.reading.proofs.fields.in_ranges.Goals as goal
 
-pub all_between-requires : goal.all_between-requires
-all_between-requires c = c.requires ∙ ap length (sym c.deref.ensures.0)
-
 pub returns : goal.returns
 returns c =
     ranged_as _ _ _ (c.requires ∙ ap length (sym c.deref.ensures.0)) c.all_between.ensures

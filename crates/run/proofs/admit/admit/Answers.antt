@@ -10,13 +10,13 @@ returns-then-fields-field_count g c = (
   (λ e. omega (arith, e)),
 )
 
-pub returns-then-not-are_long : goal.returns-then-not-are_long
-returns-then-not-are_long g c =
+pub returns-then-not-are_long_enough : goal.returns-then-not-are_long_enough
+returns-then-not-are_long_enough g c =
     let wide : g.S.Store.width c.args.store.now ≡ length c.args.sheet.now.ranges.items =
     omega (arith, c.fields.ensures, c.field_count.ensures, c.if-fields-field_count.false) in (
       list_short refl (wide ∙ sym (fields_are c.args.sheet.now))
           (subst (λ k. LongEnough c.args.fuel k c.args.given (held c.args.lists.now) → ⊥) (c.field_count-2.ensures ∙ sym wide)
-          c.if-not-are_long.ensures),
+          c.if-not-are_long_enough.ensures),
       (λ e. omega (arith, e)),
     )
 
@@ -26,5 +26,5 @@ returns g c =
     omega (arith, c.fields.ensures, c.field_count.ensures, c.if-fields-field_count.false) in (
       wide ∙ sym (fields_are c.args.sheet.now),
       subst (λ k. LongEnough c.args.fuel k c.args.given (held c.args.lists.now)) (c.field_count-2.ensures ∙ sym wide)
-          c.if-not-are_long.ensures,
+          c.if-not-are_long_enough.ensures,
     )

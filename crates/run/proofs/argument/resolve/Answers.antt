@@ -1,4 +1,4 @@
-use Rattle.std.proofs.Common.{Some, None, sym, subst}
+use Rattle.std.proofs.Common.{◌≡◌, Ok, Err, sym, subst, arith}
 use Rattle.run.specs.declared.goal.Argument.TheVariants.{Number}
 use Rattle.run.specs.Ways.{way_of, Fits}
 use Rattle.run.specs.Frames.{arguments_of, TermOkay}
@@ -32,7 +32,7 @@ returns-in-Number-clause-left g c =
     let e = arguments_of c.args.frame in
     let n = c.in-Number.number in
     let ok = subst (TermOkay (st.width s) c.args.frame.count) c.in-Number.is c.requires.okay in
-    subst (λ q. Resolved (st.width s) e (st.current s) (term_of q) z (Some (Number n)) (st.current s) z)
+    subst (λ q. Resolved (st.width s) e (st.current s) (term_of q) z (Ok (Number n)) (st.current s) z)
     (sym c.in-Number.is) (resolve_number (st.width s) e (st.current s) z n ok c.requires.some)
 
 pub returns-in-Bare-clause-left : goal.returns-in-Bare-clause-left
@@ -43,7 +43,7 @@ returns-in-Bare-clause-left g c =
     let e = arguments_of c.args.frame in
     let ok = subst (TermOkay (st.width s) c.args.frame.count) c.in-Bare.is c.requires.okay in
     let r = c.argument.ensures in
-    subst (λ q. Resolved (st.width s) e (st.current s) (term_of q) z (Some c.argument.result) (st.current s) z)
+    subst (λ q. Resolved (st.width s) e (st.current s) (term_of q) z (Ok c.argument.result) (st.current s) z)
     (sym c.in-Bare.is) (resolve_bare (st.width s) e (st.current s) z (name_of c.in-Bare.name) c.argument.result
     r.is (r.okay (st.width s) c.requires.frame ok) c.requires.some)
 
@@ -55,7 +55,7 @@ returns-in_ok-number-in-Moved-clause-left g c =
     let y = way_of g.G.Guide.ahead c.settle.new.trail in
     let P = st.current c.settle.new.store in
     let e = arguments_of c.args.frame in
-    subst (λ q. Resolved (st.width s) e (st.current s) (term_of q) z (Some (Number c.apply.result)) P y)
+    subst (λ q. Resolved (st.width s) e (st.current s) (term_of q) z (Ok (Number c.apply.result)) P y)
     (sym c.in-Moved.is) (resolve_moved (st.width s) e (st.current s) z (name_of c.in-Moved.name)
     (shift_of c.in-Moved.shift) c.argument-in-Moved.result c.argument-in-Moved.ensures.is
     c.in_ok-number-in-Moved.number c.apply.result P y c.in_ok-number-in-Moved.ensures.left c.apply.ensures.moved
@@ -69,10 +69,12 @@ returns-in_err-number-in-Moved-clause-left g c =
     let y = way_of g.G.Guide.ahead c.settle.new.trail in
     let P = st.current c.settle.new.store in
     let e = arguments_of c.args.frame in
-    subst (λ r. Resolved (st.width s) e (st.current s) (term_of c.args.term) z r P y) (sym c.from_residual.ensures)
-    (subst (λ q. Resolved (st.width s) e (st.current s) (term_of q) z None P y) (sym c.in-Moved.is)
+    let i = c.from_residual.ensures in
+    let is : c.from_residual.result ≡ Err c.in_err-number-in-Moved.field-0.0 = grind arith in
+    subst (λ r. Resolved (st.width s) e (st.current s) (term_of c.args.term) z r P y) (sym is)
+    (subst (λ q. Resolved (st.width s) e (st.current s) (term_of q) z (Err c.in_err-number-in-Moved.field-0.0) P y) (sym c.in-Moved.is)
     (resolve_halt (st.width s) e (st.current s) z (name_of c.in-Moved.name) (shift_of c.in-Moved.shift)
-    c.argument-in-Moved.result c.argument-in-Moved.ensures.is P y c.in_err-number-in-Moved.ensures.left))
+    c.argument-in-Moved.result c.argument-in-Moved.ensures.is c.in_err-number-in-Moved.field-0.0 P y c.in_err-number-in-Moved.ensures.left))
 
 pub argument-requires : goal.argument-requires
 argument-requires g c =

@@ -1,6 +1,5 @@
-use Rattle.std.proofs.Common.{not, ap, ◌∙◌}
-use mathlib.Core.Bool.{not-not}
-use Rattle.marks.specs.Counted.{some}
+use Rattle.std.proofs.Common.{subst}
+use Rattle.run.specs.Comparing.{Lives}
 use Rattle.run.proofs.Settling.{keeps_kept, kept_inside}
 use Rattle.run.proofs.compare.narrow.Goals as goal
 
@@ -11,15 +10,14 @@ returns g c =
     let t = c.keep.new.self in
     let S = st.current s in
     let P = st.current t in
-    let f = c.args.field in
     let same = c.keep.ensures.same in
-    let is = keeps_kept (st.width s) S P f c.args.sign c.args.number c.keep.result
-    c.keep.ensures.left c.requires.field c.requires.number in
+    let is = keeps_kept (st.width s) S P c.args.field c.args.sign c.args.number c.keep.result
+    c.keep.ensures.left
+    c.requires.field c.requires.number in
     record {
-      same = (same.0, same.1, kept_inside S P f c.args.sign c.args.number is);
+      same = (same.0, same.1, kept_inside S P c.args.field c.args.sign c.args.number is);
       left = record {
         is = is;
-        tells = ap not c.is_empty.ensures.1 ∙ not-not _ ∙ ap (λ q. some q P)
-            same.0;
+        lives = subst (λ w. Lives w P c.alive.result) same.0 c.alive.ensures;
       };
     }

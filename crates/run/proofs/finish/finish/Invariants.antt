@@ -1,4 +1,4 @@
-use Rattle.std.proofs.Common.{◌≡◌, ◌-◌, true, length, take}
+use Rattle.std.proofs.Common.{◌≡◌, ◌-◌, true, length}
 use Rattle.marks.specs.Counted.{some}
 use Rattle.run.specs.Settling.{Narrows}
 use Rattle.run.specs.Ways.{way_of, SameTrail, Took}
@@ -11,8 +11,8 @@ invariant-loop-field g l =
     let w = st.width l.initial.store in
     Narrows st.width st.starting st.current l.initial.store l.store
     × SameTrail g.G.Guide.fixed l.initial.trail l.trail
-    × (length l.number-items ≡ w)
+    × (length l.made.items ≡ l.field)
     × (some w (st.current l.store) ≡ true)
     × Took (way_of g.G.Guide.ahead l.initial.trail)
     (EndLeads w (st.current l.initial.store) l.field (w - l.field) (st.current l.store)
-    (take l.field l.number-items)) (way_of g.G.Guide.ahead l.trail)
+    l.made.items) (way_of g.G.Guide.ahead l.trail)

@@ -1,6 +1,6 @@
-use Rattle.std.proofs.Common.{◌≡◌, ℕ, suc, ◌+◌, ◌-◌, ◌<◌, ◌≤◌, true, map, length, get_or, set, Some, sym, refl, ap, ◌∙◌, subst, add-one, arith, length-set}
+use Rattle.std.proofs.Common.{◌≡◌, ℕ, suc, ◌+◌, ◌-◌, ◌<◌, ◌≤◌, true, map, length, get_or, set, Ok, Err, sym, refl, ap, ◌∙◌, subst, add-one, arith, length-set}
 use Rattle.marks.specs.Counted.{some}
-use Rattle.sheet.specs.declared.node.Term.TheVariants.{Number}
+use Rattle.formula.specs.declared.term.Term.TheVariants.{Number}
 use Rattle.run.specs.declared.goal.Argument.TheVariants.{Field}
 use Rattle.run.specs.Ways.{way_of, Took}
 use Rattle.sheet.specs.Table.{term_of}
@@ -21,7 +21,7 @@ loop-term-init g c =
     let ts = c.args.terms.now in
     let zero_off : length ts - 0 ≡ length ts = omega arith in (
       (refl, refl, λ m h. h),
-      (refl, refl, refl, refl, refl),
+      (refl, refl, refl, refl, refl, refl),
       refl,
       refl,
       blank_okay w,
@@ -85,13 +85,15 @@ returns-in_err-resolve g c =
     let alive = some_alive w Sᵢ inv.5 in
     let P = st.current c.resolve.new.store in
     let y' = way_of g.G.Guide.ahead c.resolve.new.trail in
+    let told = c.from_residual.ensures in
+    let is : c.from_residual.result ≡ Err c.in_err-resolve.field-0.0 = grind arith in
     record {
       same = narrows_join st.width st.starting st.current s sᵢ c.resolve.new.store inv.0
           c.in_err-resolve.ensures.same;
       lists = trails_join g.G.Guide.fixed c.args.trail.now c.loop-term.trail c.resolve.new.trail inv.1
           c.in_err-resolve.ensures.lists;
-      left = subst (λ r. Passed w e S (map term_of ts) n z r P y') (sym c.from_residual.ensures)
-          (pass_halt e w z S (map term_of ts) Sᵢ y m x us led C alive y' c.in_err-resolve.ensures.left);
+      left = subst (λ r. Passed w e S (map term_of ts) n z r P y') (sym is)
+          (pass_halt e w z S (map term_of ts) Sᵢ y m x us led C alive c.in_err-resolve.field-0.0 y' c.in_err-resolve.ensures.left);
     }
 
 pub push-requires : goal.push-requires
@@ -120,7 +122,7 @@ loop-term-preserved g c =
     let P = st.current c.resolve.new.store in
     let y' = way_of g.G.Guide.ahead c.resolve.new.trail in
     let a = c.in_ok-resolve.field-0 in
-    let k = subst (λ q. Resolved q e Sᵢ x y (Some a) P y') inv.0.0 c.in_ok-resolve.ensures.left in
+    let k = subst (λ q. Resolved q e Sᵢ x y (Ok a) P y') inv.0.0 c.in_ok-resolve.ensures.left in
     let l : i < length m.arguments = omega (arith, inv.3, c.requires.okay.0, c.loop-term-test.true) in
     let m' = c.push.new.self in
     let put : m'.arguments ≡ set m.arguments i a = ap (λ q. q.arguments) c.push.ensures

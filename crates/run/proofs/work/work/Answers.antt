@@ -6,7 +6,7 @@ use Rattle.run.specs.Ways.{way_of}
 use Rattle.run.specs.Goals.{spot_of, pending, stack}
 use Rattle.run.proofs.Ways.{trails_join}
 use Rattle.run.proofs.Settling.{narrows_join}
-use Rattle.run.proofs.Works.{first_stack, first_fit, begun, work_fits, work_stop, work_more, work_done}
+use Rattle.run.proofs.Works.{Whole, begun, work_fits, work_stop, work_more, work_done}
 use Rattle.run.proofs.work.work.Goals as goal
 
 pub run-init : goal.run-init
@@ -18,15 +18,15 @@ run-init g c =
     let sh = c.args.sheet.now in
     let rules = rules_of (tree_of sh) in
     let F = mark_line (tree_of sh) in
-    let n = c.args.fuel in
-    let gs = c.args.goals.now in
-    let fs = c.args.frames.now in (
+    let n = c.args.stack.now.depth.fuel in
+    let t = c.begin.new.self in
+    let gs = stack sh (spot_of t) in (
       (refl, refl, λ m h. h),
-      (refl, refl, refl, refl, refl),
-      (refl, refl),
+      (refl, refl, refl, refl, refl, refl),
+      c.begin.ensures.lists,
       c.requires.some,
-      first_fit sh gs fs n c.requires.goals c.requires.frames (omega arith),
-      begun rules F n S z _ (first_stack sh gs fs n c.requires.goals c.requires.frames (omega arith)),
+      c.begin.ensures.fit,
+      subst (λ k. Whole rules F n S z gs k S z) (sym c.begin.ensures.fuel) (begun rules F n S z gs c.begin.ensures.waits),
     )
 
 pub step-requires : goal.step-requires
@@ -38,7 +38,7 @@ step-requires g c =
     let sh = c.args.sheet.now in
     let rules = rules_of (tree_of sh) in
     let F = mark_line (tree_of sh) in
-    let n = c.args.fuel in
+    let n = c.args.stack.now.depth.fuel in
     let inv = c.run.invariant in
     let s = c.run.store in
     let P = st.current s in
@@ -65,7 +65,7 @@ run-preserved g c =
     let sh = c.args.sheet.now in
     let rules = rules_of (tree_of sh) in
     let F = mark_line (tree_of sh) in
-    let n = c.args.fuel in
+    let n = c.args.stack.now.depth.fuel in
     let inv = c.run.invariant in
     let s = c.run.store in
     let P = st.current s in
@@ -79,7 +79,7 @@ run-preserved g c =
     let m = after.left in (
       narrows_join st.width st.starting st.current s₀ s c.step.new.store inv.0 after.same,
       trails_join g.G.Guide.fixed c.args.trail.now c.run.trail c.step.new.trail inv.1 after.lists,
-      (after.held.0 ∙ inv.2.0, after.held.1 ∙ inv.2.1),
+      (after.held.0 ∙ inv.2.0, after.held.1 ∙ inv.2.1, after.held.2 ∙ inv.2.2, after.held.3 ∙ inv.2.3),
       subst (λ q. some q Q ≡ true) (sym c.requires.fields) m.alive,
       m.fit,
       work_more rules F n S z gs k P y inv.5 (stack sh p') p'.depth.fuel Q y' m.took,
@@ -94,7 +94,7 @@ returns-in_err-step-clause-left g c =
     let sh = c.args.sheet.now in
     let rules = rules_of (tree_of sh) in
     let F = mark_line (tree_of sh) in
-    let n = c.args.fuel in
+    let n = c.args.stack.now.depth.fuel in
     let inv = c.run.invariant in
     let s = c.run.store in
     let P = st.current s in
@@ -117,7 +117,7 @@ returns g c =
     let sh = c.args.sheet.now in
     let rules = rules_of (tree_of sh) in
     let F = mark_line (tree_of sh) in
-    let n = c.args.fuel in
+    let n = c.args.stack.now.depth.fuel in
     let inv = c.run.invariant in
     let s = c.run.store in
     let P = st.current s in
@@ -128,6 +128,7 @@ returns g c =
     record {
       same = inv.0;
       lists = inv.1;
+      held = inv.2;
       left = work_done rules F n S z gs k P y inv.5 (st.width s₀) inv.3
           (ap (pending sh c.run.stack.goals.now c.run.stack.frames.now) none);
     }

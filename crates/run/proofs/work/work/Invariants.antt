@@ -14,10 +14,10 @@ invariant-run g l =
     let p = spot_of l.stack in
     Narrows st.width st.starting st.current l.initial.store l.store
     × SameTrail g.G.Guide.fixed l.initial.trail l.trail
-    × SameStack l.initial.stack l.stack
+    × SameStack l.fn.stack l.stack
     × (some (st.width l.initial.store) (st.current l.store) ≡ true)
     × Fit l.sheet p
-    × Whole (rules_of (tree_of l.sheet)) (mark_line (tree_of l.sheet)) l.fuel (st.current l.initial.store)
+    × Whole (rules_of (tree_of l.sheet)) (mark_line (tree_of l.sheet)) l.fn.stack.depth.fuel (st.current l.initial.store)
     (way_of g.G.Guide.ahead l.initial.trail) (stack l.sheet p) p.depth.fuel (st.current l.store)
     (way_of g.G.Guide.ahead l.trail)
 

@@ -6,10 +6,8 @@ use Rattle.signs.proofs.Counting.{none_counted, one_counted, all_counted, one_on
 use Rattle.signs.proofs.Once.{one_verdict_lem, put_together}
 use Rattle.signs.proofs.counts.survey.Goals as goal
 
-pub returns-then-text-gt-LONGEST_TEXT : goal.returns-then-text-gt-LONGEST_TEXT
-returns-then-text-gt-LONGEST_TEXT c =
-    let text = c.args.text.now in
-    record { found = rw c.at.ensures (too_long c.if-text-gt-LONGEST_TEXT.true); one_verdict = one_verdict_lem text; put_together = put_together text }
+pub returns-then-text-gt-LONGEST_TEXT-clause-found : goal.returns-then-text-gt-LONGEST_TEXT-clause-found
+returns-then-text-gt-LONGEST_TEXT-clause-found c = rw c.at.ensures (too_long c.if-text-gt-LONGEST_TEXT.true)
 
 pub tokens-init : goal.tokens-init
 tokens-init c =
@@ -47,7 +45,8 @@ returns-in_err-next c =
     let text = c.args.text.now in
     let p = err_from_is_err_and c.from_residual.result c.from_residual.ensures.1 in
     record {
-      found = rw (p.1, p.2) (not_cut c.if-text-gt-LONGEST_TEXT.false (c.tokens.invariant.3 _ _ c.in_err-next.ensures.refused));
+      found = rw (p.1, p.2)
+          (not_cut c.if-text-gt-LONGEST_TEXT.false (c.tokens.invariant.3 _ _ c.in_err-next.ensures.refused));
       one_verdict = one_verdict_lem text;
       put_together = put_together text;
     }

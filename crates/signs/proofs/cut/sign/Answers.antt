@@ -11,7 +11,7 @@ returns-in_err-sign c =
     let r = c.requires in
     let none = subst (LongestSign bytes) c.in_err-sign.ensures.ok_part c.longest_sign.ensures in
     let e : Err ByteNotPermitted ≡ c.from_residual.result = search rules in
-    subst (Leads bytes) e (nothing_here bytes r.some r.solid r.wordless r.numberless none)
+    subst (Leads bytes) e (nothing_here bytes r.solid.0 r.solid.1 r.wordless r.numberless none)
 
 pub returns : goal.returns
 returns c =

@@ -1,6 +1,10 @@
+use Rattle.std.proofs.Common.{rules}
 use Rattle.lines.specs.Pieces.{shown}
 use Rattle.lines.proofs.Putting.{put_changed}
 use Rattle.lines.proofs.cursor.Cursor.shown_bytes.Goals as goal
 
-pub returns-clause-put : goal.returns-clause-put
-returns-clause-put c = put_changed shown _ c.bytes.ensures.put c.requires c.show.ensures
+pub returns : goal.returns
+returns c = record {
+  put = put_changed shown _ c.bytes.ensures.put c.requires c.show.ensures;
+  same_buffer = search (rules, c.bytes.ensures.same_buffer);
+}

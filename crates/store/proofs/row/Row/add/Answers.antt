@@ -4,4 +4,4 @@ use Rattle.store.proofs.row.Row.add.Goals as goal
 
 pub returns-then-number-lt1024 : goal.returns-then-number-lt1024
 returns-then-number-lt1024 c v =
-    with_has c.args.self.now c.args.number v c.if-number-lt1024.true (search rules)
+    rw c.from.ensures (with_has c.args.self.now c.args.number v c.if-number-lt1024.true (search rules))
