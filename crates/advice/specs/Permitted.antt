@@ -63,11 +63,11 @@ name_of kind.Compare = codes "one of = /= < <= > >="
 
 -- the line that names the kind
 abbrev pub kind_text : Kind → List ℕ
-kind_text k = codes "- " ++ (name_of k ++ line_feed)
+kind_text k = codes "here may stand " ++ (name_of k ++ line_feed)
 
 -- the line that says that the text may end
 abbrev pub end_text : List ℕ
-end_text = codes "- the end of the text" ++ line_feed
+end_text = codes "here the text may end" ++ line_feed
 
 -- a token of the kind may stand after these bytes
 abbrev pub Permitted : List ℕ → Kind → Type 0

@@ -62,16 +62,19 @@ pub fn advice_line(refusal: Refusal, out: &mut [u8]) -> Result<usize, Refusal>
     lines::write(&[Text(sentence::about(refusal)), Text(b"\n")], out)
 }
 
-// The name of a kind of token, for a list of what may stand at a place.
+// That a token of the kind may stand at a place, for a list of all that may.
 pub fn kind_line(kind: Kind, out: &mut [u8]) -> Result<usize, Refusal>
     ensures { Made (kind_text kind) out.old out.new result }
 {
-    lines::write(&[Text(b"- "), Text(kind.name()), Text(b"\n")], out)
+    lines::write(
+        &[Text(b"here may stand "), Text(kind.name()), Text(b"\n")],
+        out,
+    )
 }
 
 // That the text may end there, for the same list.
 pub fn end_line(out: &mut [u8]) -> Result<usize, Refusal>
     ensures { Made end_text out.old out.new result }
 {
-    lines::write(&[Text(b"- the end of the text\n")], out)
+    lines::write(&[Text(b"here the text may end\n")], out)
 }

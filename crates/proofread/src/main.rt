@@ -2,14 +2,15 @@
 #![tactic(auto)]
 
 use advice::Spot;
-use refusal::Fault;
+use advice::kind::Kind;
+use refusal::{Fault, Refusal};
 use sheet::table::Sheet;
 use std::io;
 use std::io::{BufWriter, Write};
 use streams::{TEXT_ROOM, put};
 
-// Room for every line. The longest is a mark under the end of a text, with its line feed.
-const ROOM: usize = TEXT_ROOM + 2;
+// Room for every line, of which the longest is a mark under the end of a text, and for a text with one token more.
+const ROOM: usize = TEXT_ROOM + 8;
 
 fn main(rt: HostRuntime) -> io::Result<()> {
     let mut text = vec![in rt.alloc(); 0u8; TEXT_ROOM]?;
@@ -23,7 +24,14 @@ fn main(rt: HostRuntime) -> io::Result<()> {
             let made = lines::contents_line(found.fields, found.rules, found.formulas, &mut line);
             put(made, &line, &mut out)?;
         }
-        Err(fault) => explain(&text, fault, &mut line, &mut out)?,
+        Err(fault) => {
+            explain(&text, fault, &mut line, &mut out)?;
+            if let Refusal::TokenNotPermitted = fault.refusal {
+                let before = text.get(..fault.place).unwrap_or(&text);
+                let mut trial = vec![in rt.alloc(); 0u8; ROOM]?;
+                put_permitted(before, &mut trial, &mut line, &mut out)?;
+            }
+        }
     }
     out.flush()
 }
@@ -37,4 +45,22 @@ fn explain<W: Write>(text: &[u8], fault: Fault, line: &mut [u8], out: &mut W) ->
     put(spot.shown_line(line), line, out)?;
     put(spot.marker_line(line), line, out)?;
     put(advice::advice_line(fault.refusal, line), line, out)
+}
+
+// A line for each kind of token that may stand after these bytes, and one where the text may end there.
+fn put_permitted<W: Write>(
+    before: &[u8],
+    trial: &mut [u8],
+    line: &mut [u8],
+    out: &mut W,
+) -> io::Result<()> {
+    for kind in Kind::ALL {
+        if advice::permitted::may_stand(before, kind, trial) == Ok(true) {
+            put(advice::kind_line(kind, line), line, out)?;
+        }
+    }
+    if advice::whole::is_whole(before) {
+        put(advice::end_line(line), line, out)?;
+    }
+    Ok(())
 }
