@@ -4,6 +4,8 @@
 #[cfg(test)]
 mod reading_trials;
 #[cfg(test)]
+mod refusal_trials;
+#[cfg(test)]
 mod sheets;
 #[cfg(test)]
 mod store_trials;

@@ -9,6 +9,8 @@ pub(crate) const ODD: &[u8] =
 
 pub(crate) const REGISTERED: &[u8] = b"field box 0 9 ; field item 0 9 ; mark box >= 1 ;";
 
+pub(crate) const EITHER: &[u8] = b"field a 0 1 ; field b 0 1 ; mark a = 0 or b = 1 ;";
+
 // The sheet that a text spells.
 pub(crate) fn spelt(text: &[u8]) -> Result<Sheet, Fail> {
     let mut sheet = Sheet::blank();
