@@ -1,6 +1,6 @@
 """Prints the cases of the conformance set, with nothing yet in place of the expected lines.
 
-    cases.py | second.py fill > cases
+    python3 cases.py | python3 second.py fill > ../crates/conform/stdin
 
 First come the examples of the pages (the file `worked`, where the expected lines stand as worked by hand), then the
 cases written by hand (the file `inputs`), and then the systematic ones that are made here.
