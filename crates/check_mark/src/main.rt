@@ -17,7 +17,7 @@ struct Asked {
 
 fn main(rt: HostRuntime) -> io::Result<()> {
     let Some(asked) = arguments(&rt)? else {
-        eprintln!(rt; "usage: check FUEL NUMBER ..  < SHEET")?;
+        eprintln!(rt; "usage: check_mark FUEL NUMBER ..  < SHEET")?;
         return Err(io::Error::other("no fuel, or a word that is no number"));
     };
     let mut text = vec![in rt.alloc(); 0u8; TEXT_ROOM]?;

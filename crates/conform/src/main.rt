@@ -26,7 +26,7 @@ const FIELDS: usize = 8;
 fn main(rt: HostRuntime) -> io::Result<()> {
     if env::args(&rt)?.nth(1).is_some() {
         eprintln!(rt; "usage: conform  < CASES")?;
-        return Err(io::Error::other("an argument"));
+        return Err(io::Error::other("it takes no arguments"));
     }
     let mut input = vec![in rt.alloc(); 0u8; ROOM]?;
     let size = streams::fill(&mut rt.stdin(), &mut input)?;

@@ -93,8 +93,9 @@ fn put_draws<W: Write>(
     };
     // A draw that goes on to another takes a number, so there is one more than numbers at the most.
     for _ in 0..=asked.count {
-        let ran = draw(sheet, &mut store, asked.fuel, &mut source, &mut lists)
-            .map_err(|_| io::Error::other("the draw is refused"))?;
+        let ran = draw(sheet, &mut store, asked.fuel, &mut source, &mut lists).map_err(
+            |_| io::Error::other("the draw is refused"),
+        )?;
         put(
             told(ran.ended, sheet.field_count(), lists.mark, line),
             line,

@@ -3,14 +3,18 @@
 
 use refusal::Refusal;
 use sheet::table::Sheet;
-use std::io;
 use std::io::{BufWriter, Write};
+use std::{env, io};
 use streams::put;
 
 // How much standard input is read.
 const ROOM: usize = 262144;
 
 fn main(rt: HostRuntime) -> io::Result<()> {
+    if env::args(&rt)?.nth(1).is_some() {
+        eprintln!(rt; "usage: faults  < SHEETS")?;
+        return Err(io::Error::other("it takes no arguments"));
+    }
     let mut input = vec![in rt.alloc(); 0u8; ROOM]?;
     let size = streams::fill(&mut rt.stdin(), &mut input)?;
     input.truncate(size);

@@ -5,8 +5,8 @@ use run::goal::{Frame, Goal};
 use run::lists::Lists;
 use sheet::table::Sheet;
 use std::alloc::Global;
-use std::io;
 use std::io::{BufWriter, Write};
+use std::{env, io};
 use store::open::OpenStore;
 use streams::{TEXT_ROOM, put};
 use walk::MOST_ENTRIES;
@@ -24,6 +24,10 @@ const FIELDS: usize = 8;
 const LINE: usize = 128;
 
 fn main(rt: HostRuntime) -> io::Result<()> {
+    if env::args(&rt)?.nth(1).is_some() {
+        eprintln!(rt; "usage: list  < SHEET")?;
+        return Err(io::Error::other("it takes no arguments"));
+    }
     let mut text = vec![in rt.alloc(); 0u8; TEXT_ROOM]?;
     let size = streams::fill(&mut rt.stdin(), &mut text)?;
     text.truncate(size);

@@ -5,14 +5,18 @@ use advice::Spot;
 use advice::kind::Kind;
 use refusal::{Fault, Refusal};
 use sheet::table::Sheet;
-use std::io;
 use std::io::{BufWriter, Write};
+use std::{env, io};
 use streams::{TEXT_ROOM, put};
 
 // Room for every line, of which the longest is a mark under the end of a text, and for a text with one token more.
 const ROOM: usize = TEXT_ROOM + 8;
 
 fn main(rt: HostRuntime) -> io::Result<()> {
+    if env::args(&rt)?.nth(1).is_some() {
+        eprintln!(rt; "usage: proofread  < SHEET")?;
+        return Err(io::Error::other("it takes no arguments"));
+    }
     let mut text = vec![in rt.alloc(); 0u8; TEXT_ROOM]?;
     let size = streams::fill(&mut rt.stdin(), &mut text)?;
     text.truncate(size);
