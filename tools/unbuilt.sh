@@ -11,8 +11,8 @@ for crate in crates/*; do
     done
 done
 wrong=0
-for text in docs/unbuilt/*.rt; do
-    name=$(basename "$text" .rt)
+for text in docs/unbuilt/*.txt; do
+    name=$(basename "$text" .txt)
     mkdir -p "$copy/crates/$name/src" && cp "$text" "$copy/crates/$name/src/lib.rt"
     echo "$name: refusal formula sheet store run walk" >> "$copy/crates.txt"
     said=$(cd "$copy/crates/$name" && rt check 2>&1)
