@@ -1,4 +1,6 @@
 // The withheld layer as a store: its current set is the lower one's, and a restart takes the pairs out again.
+ghost use Rattle.std.specs.Prelude.{◌≡◌};
+ghost use Rattle.store.specs.Rules.{Stays, Keeps};
 ghost use Rattle.withheld.specs.Withholding.{pairs_of, without};
 ghost use Rattle.withheld.specs.Sounds.{layer_sound};
 
@@ -20,11 +22,23 @@ impl<S: Store> Store for Withheld<S> {
         self.lower.fields()
     }
 
-    fn restart(&mut self) {
+    // The pairs stay, each as often as it was set.
+    fn restart(&mut self)
+        ensures pairs { pairs_of self.new ≡ pairs_of self.old }
+        ensures lower { Stays S.Store.width S.Store.starting self.old.lower self.new.lower }
+        ensures left { S.Store.current self.new.lower
+            ≡ without (pairs_of self.old) (S.Store.starting self.old.lower) }
+    {
         self.refresh();
     }
 
-    fn keep(&mut self, field: usize, sign: Comparison, number: u16) -> Result<(), Refusal> {
+    // The pairs stay here too.
+    fn keep(&mut self, field: usize, sign: Comparison, number: u16) -> Result<(), Refusal>
+        ensures pairs { pairs_of self.new ≡ pairs_of self.old }
+        ensures lower { Stays S.Store.width S.Store.starting self.old.lower self.new.lower }
+        ensures left { Keeps (S.Store.width self.old.lower) (S.Store.current self.old.lower)
+            (S.Store.current self.new.lower) field sign number result }
+    {
         self.lower.keep(field, sign, number)
     }
 
