@@ -1,6 +1,6 @@
 // The kinds of tokens, each with an example, and with the words that name it to a person.
 ghost use Rattle.std.specs.Prelude.{◌≡◌};
-ghost use Rattle.advice.specs.Permitted.{example_of, name_of};
+ghost use Rattle.advice.specs.Permitted.{EveryKind, example_of, name_of};
 
 #[derive(Clone, Copy, Debug, PartialEq, Eq)]
 pub enum Kind {
@@ -24,25 +24,30 @@ pub enum Kind {
 }
 
 impl Kind {
-    pub const ALL: [Kind; 17] = [
-        Kind::Name,
-        Kind::Number,
-        Kind::Field,
-        Kind::Rule,
-        Kind::Mark,
-        Kind::And,
-        Kind::Or,
-        Kind::Not,
-        Kind::Pick,
-        Kind::Open,
-        Kind::Close,
-        Kind::Comma,
-        Kind::Semicolon,
-        Kind::Colon,
-        Kind::Plus,
-        Kind::Minus,
-        Kind::Compare,
-    ];
+    // Every kind, for a list of all that may stand at a place.
+    pub fn all() -> [Kind; 17]
+        ensures { EveryKind result }
+    {
+        [
+            Kind::Name,
+            Kind::Number,
+            Kind::Field,
+            Kind::Rule,
+            Kind::Mark,
+            Kind::And,
+            Kind::Or,
+            Kind::Not,
+            Kind::Pick,
+            Kind::Open,
+            Kind::Close,
+            Kind::Comma,
+            Kind::Semicolon,
+            Kind::Colon,
+            Kind::Plus,
+            Kind::Minus,
+            Kind::Compare,
+        ]
+    }
 
     // A token of the kind.
     pub(crate) fn example(self) -> &'static [u8]

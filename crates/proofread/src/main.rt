@@ -58,7 +58,7 @@ fn put_permitted<W: Write>(
     line: &mut [u8],
     out: &mut W,
 ) -> io::Result<()> {
-    for kind in Kind::ALL {
+    for kind in Kind::all() {
         if advice::permitted::may_stand(before, kind, trial) == Ok(true) {
             put(advice::kind_line(kind, line), line, out)?;
         }

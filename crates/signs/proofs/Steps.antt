@@ -1,5 +1,5 @@
 -- From what stands at a place to what comes next in the text.
-use Rattle.std.proofs.Common.{◌≡◌, ℕ, ◌+◌, ◌<◌, ◌≤◌, List, [], ◌∷◌, ◌++◌, length, get_or, take, drop, false, Ok, Err, sym, ap, ◌∙◌, subst, arith}
+use Rattle.std.proofs.Common.{◌≡◌, ℕ, ◌+◌, ◌-◌, ◌<◌, ◌≤◌, List, [], ◌∷◌, ◌++◌, length, get_or, take, drop, false, Ok, Err, sym, ap, ◌∙◌, subst, arith}
 use Rattle.std.proofs.lemmas.List.{drop_all, drop-drop, get_or-drop, length-drop, length-take-le}
 use Rattle.std.specs.List.{take_while}
 use Rattle.refusal.specs.declared.Fault.{Fault}
@@ -7,7 +7,7 @@ use Rattle.refusal.specs.declared.Refusal.{Refusal}
 use Rattle.refusal.specs.Table as table
 use Rattle.signs.specs.declared.cut.Leading.{Leading}
 use Rattle.signs.specs.Bytes.{blank, Only}
-use Rattle.signs.specs.Tokens.{TokAt, at, Takes}
+use Rattle.signs.specs.Tokens.{TokAt, at, Spells, Takes}
 use Rattle.signs.specs.Cutting.{Cut, stop, gap, token, FaultHere}
 use Rattle.signs.specs.Answers.{spelt, NextToken, NoToken, NextFault}
 use Rattle.signs.specs.Scanning.{part, Leads}
@@ -104,6 +104,7 @@ token_follows text p b l r h leads =
     let here = at (spelt l.token) b in
     let takes = subst (λ x. Takes bytes (spelt l.token) (take l.size bytes) x) (drop-drop l.size b text) k.2 in
     let n : b + length (take l.size bytes) ≡ end = omega (arith, length-take-le l.size bytes k.0) in
+    let many : l.size ≡ end - b = omega arith in
     let put :
     (ts : List TokAt) (rest : List ℕ) → Cut end (drop end text) ts rest → Cut p (drop p text) (here ∷ ts) rest =
     λ ts rest c. r.on (here ∷ ts) rest (token takes k.3 (moved (sym n) c)) in
@@ -111,6 +112,7 @@ token_follows text p b l r h leads =
       after = r.from;
       some = omega (arith, k.1);
       inside = omega (arith, length-drop b text, k.0);
+      spells = subst (λ m. Spells (spelt l.token) (take m bytes)) many takes.spells;
       onward = λ ts c. put ts [] c;
       only = λ ts c.
           let back = token_back takes k.3 at_end (r.back ts [] at_end c) in (back.0, back.1, moved n back.2);

@@ -1,12 +1,12 @@
 -- What the answers of the public calls say of a text.
-use Rattle.std.specs.Prelude.{◌≡◌, ℕ, ◌<◌, ◌≤◌, Bool, true, false, List, [], ◌∷◌, length, Some, None, Option, Ok, Err, count_by, Result}
+use Rattle.std.specs.Prelude.{◌≡◌, ℕ, ◌<◌, ◌≤◌, Bool, true, false, List, [], ◌∷◌, length, Some, None, Option, Ok, Err, count_by, slice_range, Result}
 use Rattle.refusal.specs.declared.Fault.{Fault}
 use Rattle.refusal.specs.Table as table
 use Rattle.signs.specs.declared.token.Token.{Token}
 use Rattle.signs.specs.declared.token.Token.TheVariants as token
 use Rattle.signs.specs.declared.token.Placed.{Placed}
 use Rattle.signs.specs.declared.counts.TokenCounts.{TokenCounts}
-use Rattle.signs.specs.Tokens.{Tok, word, number, sign, TokAt, at}
+use Rattle.signs.specs.Tokens.{Tok, word, number, sign, TokAt, at, Spells}
 use Rattle.signs.specs.Cutting.{CutFrom, RefusedFrom, Tokenized, Refused}
 
 -- a token by its spelling, apart from where its bytes are held
@@ -19,11 +19,13 @@ spelt (token.Sign s) = sign s
 abbrev pub placed : Placed → TokAt
 placed t = at (spelt t.token) t.place
 
--- NextToken text p t: from place p on the first token is t, and the rest is what is cut from its end on
+-- NextToken text p t: from place p on the first token is t, which the bytes from its place up to its end spell, and
+-- the rest is what is cut from its end on
 pub record NextToken (text : List ℕ) (p : ℕ) (t : Placed) : Type 0 where
   pub after : p ≤ t.place
   pub some : t.place < t.end
   pub inside : t.end ≤ length text
+  pub spells : Spells (spelt t.token) (slice_range text t.place t.end)
   pub onward : (ts : List TokAt) → CutFrom text t.end ts → CutFrom text p (placed t ∷ ts)
   pub only : (ts : List TokAt) → CutFrom text p ts → (us : List TokAt) × (ts ≡ placed t ∷ us) × CutFrom text t.end us
   pub refused : (n q : ℕ) → RefusedFrom text t.end n q → RefusedFrom text p n q
