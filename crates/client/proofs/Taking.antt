@@ -19,15 +19,16 @@ use Rattle.walk.specs.Law.{Stage, running, closed, replied}
 use Rattle.client.specs.declared.call.Call.{Call}
 use Rattle.client.specs.declared.call.Call.TheVariants as call
 use Rattle.client.specs.declared.call.Taken.{Taken}
-use Rattle.client.specs.Sessions.{calls_of, ended, numbers_in, put_at, LeadsOn, Takes, noted, Draws}
+use Rattle.client.specs.Sessions.{calls_of, ended, numbers_in, put_at, Served, LeadsOn, Takes, noted, Draws}
 use Rattle.client.proofs.Lists.{numbers_append, ended_append, put_none, put_more, put_part}
 
 -- calls that reply nothing and fill nothing
 pub takes_silent :
-    (s : Sheet) (n : ℕ) (z : Stage) (t : Taken) (list : List ℕ) (cs : List Call) (z' : Stage)
-    → LeadsOn s n z cs [] z'
-    → Takes s n z t list cs z' t list
-takes_silent s n z t list cs z' leads = record {
+    (s : Sheet) (n : ℕ) (u : Served) (z : Stage) (t : Taken) (list ns : List ℕ) (cs : List Call) (z' : Stage)
+    (ns' : List ℕ)
+    → LeadsOn s n u z t.entries ns cs [] z' ns'
+    → Takes s n u z t list ns cs z' t list ns'
+takes_silent s n u z t list ns cs z' ns' leads = record {
   replies = [];
   leads_on = leads;
   entries = sym (add-zero t.entries);
@@ -35,28 +36,36 @@ takes_silent s n z t list cs z' leads = record {
   finished = sym (or-false t.finished);
 }
 
-pub takes_none : (s : Sheet) (n : ℕ) (z : Stage) (t : Taken) (list : List ℕ) → Takes s n z t list [] z t list
-takes_none s n z t list =
-    takes_silent s n z t list [] z (λ w h. (h, sym (append-nil (calls_of h)), sym (append-nil (law.replies h))))
+pub takes_none :
+    (s : Sheet) (n : ℕ) (u : Served) (z : Stage) (t : Taken) (list ns : List ℕ)
+    → Takes s n u z t list ns [] z t list ns
+takes_none s n u z t list ns =
+    takes_silent s n u z t list ns [] z ns
+    (λ w f h g e. (h, sym (append-nil (calls_of h)), sym (append-nil (law.replies h)), g))
 
 pub takes_more :
-    {s : Sheet} {n : ℕ} {z z₁ z₂ : Stage} {t t₁ t₂ : Taken} {list list₁ list₂ : List ℕ} {cs ds : List Call}
+    {s : Sheet} {n : ℕ} {u : Served} {z z₁ z₂ : Stage} {t t₁ t₂ : Taken} {list list₁ list₂ ns ns₁ ns₂ : List ℕ}
+    {cs ds : List Call}
     → t.entries ≤ length list
-    → Takes s n z t list cs z₁ t₁ list₁
-    → Takes s n z₁ t₁ list₁ ds z₂ t₂ list₂
-    → Takes s n z t list (cs ++ ds) z₂ t₂ list₂
-takes_more {s} {n} {z} {z₁} {z₂} {t} {t₁} {t₂} {list} {list₁} {list₂} {cs} {ds} h a b =
+    → Takes s n u z t list ns cs z₁ t₁ list₁ ns₁
+    → Takes s n u z₁ t₁ list₁ ns₁ ds z₂ t₂ list₂ ns₂
+    → Takes s n u z t list ns (cs ++ ds) z₂ t₂ list₂ ns₂
+takes_more {s} {n} {u} {z} {z₁} {z₂} {t} {t₁} {t₂} {list} {list₁} {list₂} {ns} {ns₁} {ns₂} {cs} {ds} h a b =
     let xs = numbers_in a.replies in
     let ys = numbers_in b.replies in
     let both = numbers_append a.replies b.replies in
     record {
       replies = a.replies ++ b.replies;
-      leads_on = λ w g.
-          let one = a.leads_on w g in
-          let two = b.leads_on w one.0 in (
+      leads_on = λ w f g given k.
+          let one = a.leads_on w f g given k in
+          let k₁ : length (numbers_in (law.replies one.0)) ≡ t₁.entries =
+          ap (λ q. length (numbers_in q)) one.2 ∙ ap length (numbers_append (law.replies g) a.replies)
+          ∙ length-append (numbers_in (law.replies g)) xs ∙ ap (λ q. q + length xs) k ∙ sym a.entries in
+          let two = b.leads_on w f one.0 one.3 k₁ in (
             two.0,
             two.1 ∙ ap (λ q. q ++ ds) one.1 ∙ append_assoc (calls_of g) cs ds,
             two.2 ∙ ap (λ q. q ++ b.replies) one.2 ∙ append_assoc (law.replies g) a.replies b.replies,
+            two.3,
           );
       entries =
           b.entries ∙ ap (λ q. q + length ys) a.entries ∙ add_assoc t.entries (length xs) (length ys)
@@ -72,59 +81,73 @@ takes_more {s} {n} {z} {z₁} {z₂} {t} {t₁} {t₂} {list} {list₁} {list₂
           ∙ ap (λ q. t.finished || q) (sym (ended_append a.replies b.replies));
     }
 
+-- a next is lent the lists of goals and of frames, and the list of marks past its first k entries
+abbrev LentOf : Served → ℕ → Lent → Type 0
+LentOf u k x = (x.goals ≡ u.goals) × (x.frames ≡ u.frames) × (k + length x.marks ≡ u.marks)
+
 leads_next :
-    (s : Sheet) (n : ℕ) (v v' : Watched) (x : Lent) (r : Result Answer Refusal) (marks : List ℕ)
+    (s : Sheet) (n : ℕ) (u : Served) (v v' : Watched) (k : ℕ) (ns : List ℕ) (x : Lent) (r : Result Answer Refusal)
+    (marks : List ℕ)
+    → LentOf u k x
     → Nexts s n v x r v' marks
-    → LeadsOn s n (running v) (call.Next ∷ []) (replied n r marks) (running v')
-leads_next s n v v' x r marks p = λ w h. (law.next h x r marks p, refl, refl)
+    → LeadsOn s n u (running v) k ns (call.Next ∷ []) (replied n r marks) (running v') ns
+leads_next s n u v v' k ns x r marks l p = λ w f h g e.
+    (law.next h x r marks p, refl, refl, (g, l.0, l.1, ap (λ q. q + length x.marks) e ∙ l.2))
+
+-- what is lent of a list from a place on is as long as the list past it
+part_long : (k : ℕ) (list part : List ℕ) → k ≤ length list → part ≡ drop k list → k + length part ≡ length list
+part_long k list part h e =
+    let long : length part ≡ length list - k = ap length e ∙ length-drop k list in
+    omega arith
 
 -- a next whose mark list is the list of marks from the filled entries on, with a sheet of f fields
 takes_next :
-    (s : Sheet) (n f : ℕ) (v v' : Watched) (x : Lent) (r : Result Answer Refusal) (t : Taken)
-    (list marks : List ℕ)
+    (s : Sheet) (n f : ℕ) (u : Served) (v v' : Watched) (x : Lent) (r : Result Answer Refusal) (t : Taken)
+    (list marks ns : List ℕ)
+    → LentOf u t.entries x
     → fields_of s ≡ f
     → t.entries ≤ length list
     → x.marks ≡ drop t.entries list
     → length marks ≡ length x.marks
     → Nexts s n v x r v' marks
-    → Takes s n (running v) t list (call.Next ∷ []) (running v') (noted f r t)
-    (put_mid t.entries (length list - t.entries) list marks)
-takes_next s n f v v' x (Ok answer.Mark) t list marks d h e l p =
+    → Takes s n u (running v) t list ns (call.Next ∷ []) (running v') (noted f r t)
+    (put_mid t.entries (length list - t.entries) list marks) ns
+takes_next s n f u v v' x (Ok answer.Mark) t list marks ns lends d h e l p =
     let m = take n marks in
     let wide : length m ≡ n = length-take-le n marks (let room = p.roomy.mark in omega (arith, l)) in
     record {
       replies = replied n (Ok answer.Mark) marks;
-      leads_on = leads_next s n v v' x (Ok answer.Mark) marks p;
+      leads_on = leads_next s n u v v' t.entries ns x (Ok answer.Mark) marks lends p;
       entries = ap (λ q. t.entries + q) (sym d ∙ sym p.agree ∙ sym (ap length (append-nil m) ∙ wide));
       listed =
           put_part t.entries list x.marks marks m h e p.fills
           ∙ ap (λ q. put_at t.entries q list) (sym (append-nil m));
       finished = sym (or-false t.finished);
     }
-takes_next s n f v v' x (Ok answer.DeadEnd) t list marks d h e l p = record {
+takes_next s n f u v v' x (Ok answer.DeadEnd) t list marks ns lends d h e l p = record {
   replies = replied n (Ok answer.DeadEnd) marks;
-  leads_on = leads_next s n v v' x (Ok answer.DeadEnd) marks p;
+  leads_on = leads_next s n u v v' t.entries ns x (Ok answer.DeadEnd) marks lends p;
   entries = sym (add-zero t.entries);
   listed = put_part t.entries list x.marks marks [] h e p.fills;
   finished = sym (or-false t.finished);
 }
-takes_next s n f v v' x (Ok answer.Spent) t list marks d h e l p = record {
+takes_next s n f u v v' x (Ok answer.Spent) t list marks ns lends d h e l p = record {
   replies = replied n (Ok answer.Spent) marks;
-  leads_on = leads_next s n v v' x (Ok answer.Spent) marks p;
+  leads_on = leads_next s n u v v' t.entries ns x (Ok answer.Spent) marks lends p;
   entries = sym (add-zero t.entries);
   listed = put_part t.entries list x.marks marks [] h e p.fills;
   finished = sym (or-false t.finished);
 }
-takes_next s n f v v' x (Ok answer.Finished) t list marks d h e l p = record {
+takes_next s n f u v v' x (Ok answer.Finished) t list marks ns lends d h e l p = record {
   replies = replied n (Ok answer.Finished) marks;
-  leads_on = leads_next s n v v' x (Ok answer.Finished) marks p;
+  leads_on = leads_next s n u v v' t.entries ns x (Ok answer.Finished) marks lends p;
   entries = sym (add-zero t.entries);
   listed = put_part t.entries list x.marks marks [] h e p.fills;
   finished = sym (or-true t.finished);
 }
-takes_next s n f v v' x (Err refusal) t list marks d h e l p = record {
+takes_next s n f u v v' x (Err refusal) t list marks ns lends d h e l p = record {
   replies = replied n (Err refusal) marks;
-  leads_on = leads_next s n v v' x (Err refusal) marks p;
+  leads_on = leads_next s n u v v' t.entries ns x (Err refusal) marks lends p;
   entries = sym (add-zero t.entries);
   listed = put_part t.entries list x.marks marks [] h e p.same_marks;
   finished = sym (or-false t.finished);
@@ -132,21 +155,25 @@ takes_next s n f v v' x (Err refusal) t list marks d h e l p = record {
 
 -- the same of what was noted
 pub takes_noted :
-    (s : Sheet) (n f : ℕ) (v v' : Watched) (x : Lent) (r : Result Answer Refusal) (t t' : Taken)
-    (list marks : List ℕ)
+    (s : Sheet) (n f : ℕ) (u : Served) (v v' : Watched) (x : Lent) (r : Result Answer Refusal) (t t' : Taken)
+    (list marks ns : List ℕ)
+    → x.goals ≡ u.goals
+    → x.frames ≡ u.frames
+    → length list ≡ u.marks
     → fields_of s ≡ f
     → t.entries ≤ length list
     → x.marks ≡ drop t.entries list
     → length marks ≡ length x.marks
     → Nexts s n v x r v' marks
     → t' ≡ noted f r t
-    → Takes s n (running v) t list (call.Next ∷ []) (running v') t'
-    (put_mid t.entries (length list - t.entries) list marks)
-takes_noted s n f v v' x r t t' list marks d h e l p is =
+    → Takes s n u (running v) t list ns (call.Next ∷ []) (running v') t'
+    (put_mid t.entries (length list - t.entries) list marks) ns
+takes_noted s n f u v v' x r t t' list marks ns goals frames wide d h e l p is =
     subst
-    (λ (q : Taken). Takes s n (running v) t list (call.Next ∷ []) (running v') q
-    (put_mid t.entries (length list - t.entries) list marks)) (sym is)
-    (takes_next s n f v v' x r t list marks d h e l p)
+    (λ (q : Taken). Takes s n u (running v) t list ns (call.Next ∷ []) (running v') q
+    (put_mid t.entries (length list - t.entries) list marks) ns) (sym is)
+    (takes_next s n f u v v' x r t list marks ns (goals, frames, part_long t.entries list x.marks h e ∙ wide) d h e l
+    p)
 
 -- a next that issues a mark found room for it
 room_for :
@@ -204,74 +231,80 @@ noted_room f r t t' list back is long h fits =
 
 -- a draw, over a store that keeps its starting set
 pub takes_draw :
-    (s : Sheet) (n : ℕ) (v v' : Watched) (t : Taken) (list : List ℕ) (fuel : ℕ) (c : Call)
+    (s : Sheet) (n : ℕ) (u : Served) (v v' : Watched) (t : Taken) (list ns ns' : List ℕ) (fuel : ℕ) (c : Call)
     → c ≡ call.Draw fuel
-    → Draws s n v.starting fuel
+    → Draws s n v.starting fuel u.goals u.frames ns ns'
     → v' ≡ v
-    → Takes s n (running v) t list (c ∷ []) (running v') t list
-takes_draw s n v v' t list fuel c is d same =
-    subst (λ (q : Call). Takes s n (running v) t list (q ∷ []) (running v') t list) (sym is)
-    (takes_silent s n (running v) t list (call.Draw fuel ∷ []) (running v')
-    (λ w h. (
-      law.draw h fuel d.waiting d.rest d.own d.own' d.result d.answers same,
+    → Takes s n u (running v) t list ns (c ∷ []) (running v') t list ns'
+takes_draw s n u v v' t list ns ns' fuel c is d same =
+    subst (λ (q : Call). Takes s n u (running v) t list ns (q ∷ []) (running v') t list ns') (sym is)
+    (takes_silent s n u (running v) t list ns (call.Draw fuel ∷ []) (running v') ns'
+    (λ w f h g e. (
+      law.draw h fuel ns ns' d.own d.own' d.result d.answers same,
       refl,
       sym (append-nil (law.replies h)),
+      (g, refl, d.lists),
     )))
 
--- a check
+-- a check of the mark asked for
 pub takes_check :
-    (s : Sheet) (n : ℕ) (v : Watched) (t : Taken) (list m : List ℕ) (fuel : ℕ) (r : Result Reading Refusal)
-    (c : Call)
+    (s : Sheet) (n : ℕ) (u : Served) (v : Watched) (t : Taken) (list ns m : List ℕ) (fuel : ℕ)
+    (r : Result Reading Refusal) (c : Call)
     → c ≡ call.Check fuel
+    → m ≡ u.asked
     → Right s m fuel (answer_of r)
-    → Takes s n (running v) t list (c ∷ []) (running v) t list
-takes_check s n v t list m fuel r c is p =
-    subst (λ (q : Call). Takes s n (running v) t list (q ∷ []) (running v) t list) (sym is)
-    (takes_silent s n (running v) t list (call.Check fuel ∷ []) (running v)
-    (λ w h. (law.check h m fuel r p, refl, sym (append-nil (law.replies h)))))
+    → Takes s n u (running v) t list ns (c ∷ []) (running v) t list ns
+takes_check s n u v t list ns m fuel r c is asked p =
+    subst (λ (q : Call). Takes s n u (running v) t list ns (q ∷ []) (running v) t list ns) (sym is)
+    (takes_silent s n u (running v) t list ns (call.Check fuel ∷ []) (running v) ns
+    (λ w f h g e. (law.check h m fuel r p, refl, sym (append-nil (law.replies h)), (g, asked))))
 
 -- a tally
 pub takes_tally :
-    (s : Sheet) (n : ℕ) (v : Watched) (t : Taken) (list : List ℕ) (k : Tallies) (c : Call)
+    (s : Sheet) (n : ℕ) (u : Served) (v : Watched) (t : Taken) (list ns : List ℕ) (k : Tallies) (c : Call)
     → c ≡ call.Tally
     → Reads v k
-    → Takes s n (running v) t list (c ∷ []) (running v) t list
-takes_tally s n v t list k c is p =
-    subst (λ (q : Call). Takes s n (running v) t list (q ∷ []) (running v) t list) (sym is)
-    (takes_silent s n (running v) t list (call.Tally ∷ []) (running v)
-    (λ w h. (law.tally h k p, refl, sym (append-nil (law.replies h)))))
+    → Takes s n u (running v) t list ns (c ∷ []) (running v) t list ns
+takes_tally s n u v t list ns k c is p =
+    subst (λ (q : Call). Takes s n u (running v) t list ns (q ∷ []) (running v) t list ns) (sym is)
+    (takes_silent s n u (running v) t list ns (call.Tally ∷ []) (running v) ns
+    (λ w f h g e. (law.tally h k p, refl, sym (append-nil (law.replies h)), g)))
 
 -- a close that is refused
 pub takes_kept :
-    (s : Sheet) (n : ℕ) (v v' : Watched) (t : Taken) (list : List ℕ) (e : Refusal)
+    (s : Sheet) (n : ℕ) (u : Served) (v v' : Watched) (t : Taken) (list ns : List ℕ) (e : Refusal)
     → Keeps v e v'
-    → Takes s n (running v) t list (call.Close ∷ []) (running v') t list
-takes_kept s n v v' t list e p =
-    takes_silent s n (running v) t list (call.Close ∷ []) (running v')
-    (λ w h. (law.kept h e p, refl, sym (append-nil (law.replies h))))
+    → Takes s n u (running v) t list ns (call.Close ∷ []) (running v') t list ns
+takes_kept s n u v v' t list ns e p =
+    takes_silent s n u (running v) t list ns (call.Close ∷ []) (running v') ns
+    (λ w f h g k. (law.kept h e p, refl, sym (append-nil (law.replies h)), g))
 
 -- a close that is not
 pub takes_close :
-    (s : Sheet) (n : ℕ) (v : Watched) (t : Taken) (list : List ℕ) (k : Tallies)
+    (s : Sheet) (n : ℕ) (u : Served) (v : Watched) (t : Taken) (list ns : List ℕ) (k : Tallies)
     → Closes v k
-    → Takes s n (running v) t list (call.Close ∷ []) (closed k) t list
-takes_close s n v t list k p =
-    takes_silent s n (running v) t list (call.Close ∷ []) (closed k)
-    (λ w h. (law.close h k p, refl, sym (append-nil (law.replies h))))
+    → Takes s n u (running v) t list ns (call.Close ∷ []) (closed k) t list ns
+takes_close s n u v t list ns k p =
+    takes_silent s n u (running v) t list ns (call.Close ∷ []) (closed k) ns
+    (λ w f h g e. (law.close h k p, refl, sym (append-nil (law.replies h)), g))
 
 -- one call more of those that are given
 pub takes_on :
-    {s : Sheet} {n : ℕ} (n₁ : ℕ) {z z₁ z₂ : Stage} {t t₁ t₂ : Taken} {list list₁ list₂ : List ℕ}
-    (given : List Call) (i : ℕ) (c : Call)
+    {s : Sheet} {n : ℕ} (n₁ : ℕ) {u : Served} (u₁ : Served) {z z₁ z₂ : Stage} {t t₁ t₂ : Taken}
+    {list list₁ list₂ ns ns₁ ns₂ : List ℕ} (given : List Call) (i : ℕ) (c : Call)
     → n₁ ≡ n
+    → u₁ ≡ u
     → i < length given
     → get_or given i call.Next ≡ c
     → t.entries ≤ length list
-    → Takes s n z t list (take i given) z₁ t₁ list₁
-    → Takes s n₁ z₁ t₁ list₁ (c ∷ []) z₂ t₂ list₂
-    → Takes s n z t list (take (i + 1) given) z₂ t₂ list₂
-takes_on {s} {n} n₁ {z} {z₁} {z₂} {t} {t₁} {t₂} {list} {list₁} {list₂} given i c same h is room a b =
+    → Takes s n u z t list ns (take i given) z₁ t₁ list₁ ns₁
+    → Takes s n₁ u₁ z₁ t₁ list₁ ns₁ (c ∷ []) z₂ t₂ list₂ ns₂
+    → Takes s n u z t list ns (take (i + 1) given) z₂ t₂ list₂ ns₂
+takes_on {s} {n} n₁ {u} u₁ {z} {z₁} {z₂} {t} {t₁} {t₂} {list} {list₁} {list₂} {ns} {ns₁} {ns₂} given i c same
+    served h is room a b =
     let more : take i given ++ (c ∷ []) ≡ take (i + 1) given =
     ap (λ (q : Call). take i given ++ (q ∷ [])) (sym is) ∙ sym (take_more given i call.Next h) in
-    subst (λ (q : List Call). Takes s n z t list q z₂ t₂ list₂) more
-    (takes_more room a (subst (λ (q : ℕ). Takes s q z₁ t₁ list₁ (c ∷ []) z₂ t₂ list₂) same b))
+    subst (λ (q : List Call). Takes s n u z t list ns q z₂ t₂ list₂ ns₂) more
+    (takes_more room a
+    (subst (λ (q : Served). Takes s n q z₁ t₁ list₁ ns₁ (c ∷ []) z₂ t₂ list₂ ns₂) served
+    (subst (λ (q : ℕ). Takes s q u₁ z₁ t₁ list₁ ns₁ (c ∷ []) z₂ t₂ list₂ ns₂) same b)))

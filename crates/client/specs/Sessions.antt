@@ -1,6 +1,6 @@
 -- A session: a walk is started, and calls are made on it in an order that is given as a list. What it leaves is
 -- told by a history of those calls, and by what the law of the walk says of every history.
-use Rattle.std.specs.Prelude.{◌≡◌, ℕ, ◌+◌, ◌<◌, Bool, true, false, ◌&&◌, ◌||◌, List, [], ◌∷◌, ◌++◌, length, take, drop, Some, None, Ok, Err, Option, Result, slice_index_or}
+use Rattle.std.specs.Prelude.{◌≡◌, ℕ, ◌+◌, ◌<◌, ◌≤◌, Bool, true, false, ◌&&◌, ◌||◌, List, [], ◌∷◌, ◌++◌, length, take, drop, Some, None, Ok, Err, Option, Result, slice_index_or}
 use Rattle.formula.specs.Trees.{Sheet}
 use Rattle.marks.specs.Sets.{Marks}
 use Rattle.refusal.specs.declared.Refusal.{Refusal}
@@ -10,6 +10,7 @@ use Rattle.meaning.specs.Walks.{WholeWalk}
 use Rattle.run.specs.declared.answer.Ended.{Ended}
 use Rattle.run.specs.declared.answer.Ran.{Ran}
 use Rattle.run.specs.declared.lists.Lists.{Lists as Borrowed}
+use Rattle.run.specs.Rooms.{needed_entries}
 use Rattle.run.specs.Answering.{Lists, setting, AnswersDraw}
 use Rattle.walk.specs.declared.answer.Answer.{Answer}
 use Rattle.walk.specs.declared.answer.Answer.TheVariants as answer
@@ -60,18 +61,66 @@ numbers_in rs = joined (marks_in (outcomes rs))
 abbrev pub put_at : (k : ℕ) → List ℕ → List ℕ → List ℕ
 put_at k xs list = take k list ++ (xs ++ drop (k + length xs) list)
 
--- from every history that stands at z, the calls cs lead on to z', and their nexts reply rs
-abbrev pub LeadsOn : Sheet → ℕ → (z : Stage) → List Call → List Reply → (z' : Stage) → Type 0
-LeadsOn s n z cs rs z' =
-    (w : Watched) (h : History s n w z)
-    → (h' : History s n w z') × (calls_of h' ≡ calls_of h ++ cs) × (law.replies h' ≡ law.replies h ++ rs)
+-- what a session has for its calls beside walk, sheet, store and source: the mark that checks read, and how long the
+-- lists of goals, of frames and of marks are
+pub record Served : Type 0 where
+  pub asked : List ℕ
+  pub goals : ℕ
+  pub frames : ℕ
+  pub marks : ℕ
 
--- the calls cs take a session from z, with what it took and the list of marks, to z'
+-- the mark asked for, and the lists that are lent
+abbrev pub served : (asked : List ℕ) → Borrowed → Served
+served m l = record {
+  asked = m;
+  goals = length l.goals.now;
+  frames = length l.frames.now;
+  marks = length l.mark.now;
+}
+
+-- the lists of a draw: the goals and the frames of the session, and others of its own, long enough whatever the fuel
+pub record OwnLists (goals frames : ℕ) (own : Lists) : Type 0 where
+  pub goals_are : own.goals ≡ goals
+  pub frames_are : own.frames ≡ frames
+  pub picks_hold : needed_entries 255 ≤ length own.picks
+  pub widths_hold : needed_entries 255 ≤ length own.widths
+  pub mark_holds : 8 ≤ length own.mark
+
+-- what the calls of a history were given: each next the lists of goals and of frames, and of the list of marks what is
+-- not filled yet; each check the mark asked for; and the draws the source, one after the other, in which first the
+-- numbers ns waited and now ns' do
+abbrev pub Given :
+    {s : Sheet} {n : ℕ} {w : Watched} {z : Stage} → Served → (ns : List ℕ) → History s n w z → (ns' : List ℕ)
+    → Type 0
+Given v ns law.none ns' = ns' ≡ ns
+Given v ns (law.next h x r marks p) ns' =
+    Given v ns h ns' × (x.goals ≡ v.goals) × (x.frames ≡ v.frames)
+    × (length (numbers_in (law.replies h)) + length x.marks ≡ v.marks)
+Given v ns (law.draw h fuel waiting rest own own' r p e) ns' =
+    Given v ns h waiting × (ns' ≡ rest) × OwnLists v.goals v.frames own
+Given v ns (law.check h m fuel r p) ns' = Given v ns h ns' × (m ≡ v.asked)
+Given v ns (law.tally h k p) ns' = Given v ns h ns'
+Given v ns (law.kept h e p) ns' = Given v ns h ns'
+Given v ns (law.close h k p) ns' = Given v ns h ns'
+
+-- from every history that stands at z, whose marks fill k entries and whose draws left the numbers ns, the calls cs lead
+-- on to z' and leave ns', and their nexts reply rs
+abbrev pub LeadsOn :
+    Sheet → ℕ → Served → (z : Stage) → (k : ℕ) → (ns : List ℕ) → List Call → List Reply → (z' : Stage)
+    → (ns' : List ℕ) → Type 0
+LeadsOn s n v z k ns cs rs z' ns' =
+    (w : Watched) (first : List ℕ) (h : History s n w z)
+    → Given v first h ns
+    → length (numbers_in (law.replies h)) ≡ k
+    → (h' : History s n w z') × (calls_of h' ≡ calls_of h ++ cs) × (law.replies h' ≡ law.replies h ++ rs)
+    × Given v first h' ns'
+
+-- the calls cs take a session from z, with what it took, the list of marks and the numbers that wait, to z'
 pub record Takes
-    (s : Sheet) (n : ℕ) (z : Stage) (t : Taken) (list : List ℕ) (cs : List Call) (z' : Stage) (t' : Taken)
-    (list' : List ℕ) : Type 0 where
+    (s : Sheet) (n : ℕ) (v : Served) (z : Stage) (t : Taken) (list ns : List ℕ) (cs : List Call) (z' : Stage)
+    (t' : Taken) (list' ns' : List ℕ) : Type 0 where
   pub replies : List Reply
-  pub leads_on : LeadsOn s n z cs replies z'
+  pub leads_on : LeadsOn s n v z t.entries ns cs replies z' ns'
   pub entries : t'.entries ≡ t.entries + length (numbers_in replies)
   pub listed : list' ≡ put_at t.entries (numbers_in replies) list
   pub finished : t'.finished ≡ (t.finished || ended replies)
@@ -89,11 +138,11 @@ abbrev pub stage_of : ControlFlow Tallies Walk → Marks → (picks widths : Lis
 stage_of (Continue w) S ps ws = running (watch w S ps ws)
 stage_of (Break k) S ps ws = closed k
 
--- a draw with that fuel was made over a store of n fields with that starting set
-pub record Draws (s : Sheet) (n : ℕ) (starting : Marks) (fuel : ℕ) : Type 0 where
-  pub waiting : List ℕ
-  pub rest : List ℕ
+-- a draw with that fuel was made over a store of n fields with that starting set, and with so many goals and frames
+pub record Draws (s : Sheet) (n : ℕ) (starting : Marks) (fuel goals frames : ℕ) (waiting rest : List ℕ)
+    : Type 0 where
   pub own : Lists
+  pub lists : OwnLists goals frames own
   pub own' : Lists
   pub result : Result (Ran (Option Ended)) Refusal
   pub answers : AnswersDraw (setting s fuel n starting) waiting rest own result own'
@@ -108,19 +157,28 @@ abbrev pub CallsMade : Option Tallies → (made given : List Call) → Type 0
 CallsMade None made given = made ≡ given
 CallsMade (Some k) made given = (rest : List Call) × (given ≡ made ++ rest)
 
--- what a session with the calls cs leaves, over a store of n fields with the starting set S
+-- the walk, where it runs still, stands over these trace lists
+abbrev pub StandsOver : Stage → (picks widths : List ℕ) → Type 0
+StandsOver (running w) ps ws = (w.picks ≡ ps) × (w.widths ≡ ws)
+StandsOver (closed k) ps ws = Unit {0}
+
+-- what a session with the calls cs leaves, over a store of n fields with the starting set S, where checks read the mark
+-- asked for, and the numbers ns waited in the source and ns' do afterwards
 pub record Conducted
-    (s : Sheet) (n fuel : ℕ) (S : Marks) (cs : List Call) (before : List ℕ) (r : Session) (after : List ℕ)
-    : Type 0 where
-  -- a history of those calls on a fresh walk
-  pub walk : Watched
-  pub fresh : Fresh walk
+    (s : Sheet) (n fuel : ℕ) (S : Marks) (asked : List ℕ) (cs : List Call) (before : Borrowed) (ns : List ℕ)
+    (r : Session) (after : Borrowed) (ns' : List ℕ) : Type 0 where
+  -- a history of those calls on a fresh walk over the trace lists
+  pub walk : Walk
+  pub fuel_is : walk.fuel ≡ fuel
+  pub fresh : Fresh (watch_over walk S before)
   pub stage : Stage
-  pub history : History s n walk stage
+  pub history : History s n (watch_over walk S before) stage
   pub called : CallsMade r.figures (calls_of history) cs
+  pub given : Given (served asked before) ns history ns'
+  pub stands : StandsOver stage after.picks.now after.widths.now
   -- what it took is what the nexts replied
   pub entries : r.taken.entries ≡ length (numbers_in (law.replies history))
-  pub listed : after ≡ put_at 0 (numbers_in (law.replies history)) before
+  pub listed : after.mark.now ≡ put_at 0 (numbers_in (law.replies history)) before.mark.now
   pub finished : r.taken.finished ≡ ended (law.replies history)
   pub figures : FiguresAre r.figures (law.replies history)
   -- the nexts replied by the one list of outcomes of the whole walk, from its front

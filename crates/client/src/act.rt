@@ -12,7 +12,7 @@ ghost use Rattle.walk.specs.Calls.{lent, Nexts};
 ghost use Rattle.walk.specs.Lending.{watch_over};
 ghost use Rattle.walk.specs.Law.{running};
 ghost use Rattle.walk.specs.declared.answer.Answer.TheVariants.{Mark};
-ghost use Rattle.client.specs.Sessions.{stage_of, noted, Takes, Draws};
+ghost use Rattle.client.specs.Sessions.{stage_of, noted, served, Served, Takes, Draws};
 
 use crate::call::{Call, Taken};
 use refusal::Refusal;
@@ -39,7 +39,8 @@ fn practise<S: Store, R: Source>(
 )
     ensures same { Stays S.width S.starting store.old store.new }
     ensures drawn { Draws (tree_of sheet.now) (S.width store.old)
-        (S.starting store.old) fuel }
+        (S.starting store.old) fuel (length goals.old) (length frames.old)
+        (R.waiting source.old) (R.waiting source.new) }
 {
     let mut picks = [0u16; MOST_ENTRIES];
     let mut widths = [0u16; MOST_ENTRIES];
@@ -70,8 +71,9 @@ impl Taken {
 
 // A close: the closing figures, or the walk where it is not finished.
 fn close(walk: Walk) -> ControlFlow<Tallies, Walk>
-    ensures { (s : Formulas) (n : ℕ) (S : Marks) (ps ws : List ℕ) (t : Taken) (list : List ℕ) →
-        Takes s n (running (watch walk S ps ws)) t list (Call.Close ∷ []) (stage_of result S ps ws) t list }
+    ensures { (s : Formulas) (n : ℕ) (v : Served) (S : Marks) (ps ws : List ℕ) (t : Taken) (list ns : List ℕ) →
+        Takes s n v (running (watch walk S ps ws)) t list ns (Call.Close ∷ [])
+        (stage_of result S ps ws) t list ns }
 {
     match walk.close() {
         Ok(closed) => ControlFlow::Break(closed.figures()),
@@ -121,11 +123,12 @@ fn issue<S: Store>(
     ensures room { taken.new.entries ≤ length lists.new.mark.now }
     ensures same { Stays S.width S.starting store.old store.new }
     ensures own { SameLists lists.old lists.new }
-    ensures takes { Takes (tree_of sheet.now) (S.width store.old)
+    ensures takes { (asked ns : List ℕ) → Takes (tree_of sheet.now) (S.width store.old)
+        (served asked lists.old)
         (running (watch_over walk.old (S.starting store.old) lists.old))
-        taken.old lists.old.mark.now (Call.Next ∷ [])
+        taken.old lists.old.mark.now ns (Call.Next ∷ [])
         (running (watch_over walk.new (S.starting store.new) lists.new))
-        taken.new lists.new.mark.now }
+        taken.new lists.new.mark.now ns }
 {
     let answer = next_over(
         walk,
@@ -156,10 +159,11 @@ pub(crate) fn act<S: Store, R: Source>(
     ensures same { Stays S.width S.starting store.old store.new }
     ensures own { SameLists lists.old lists.new }
     ensures takes { Takes (tree_of sheet.now) (S.width store.old)
+        (served asked.now lists.old)
         (running (watch_over walk (S.starting store.old) lists.old))
-        taken.old lists.old.mark.now (call ∷ [])
+        taken.old lists.old.mark.now (R.waiting source.old) (call ∷ [])
         (stage_of result (S.starting store.new) lists.new.picks.now lists.new.widths.now)
-        taken.new lists.new.mark.now }
+        taken.new lists.new.mark.now (R.waiting source.new) }
 {
     match call {
         Call::Next => {

@@ -1,5 +1,6 @@
 // A walk from its start, by calls that are given as data.
 ghost use Rattle.sheet.specs.Sheets.{tree_of};
+ghost use Rattle.store.specs.Rules.{Stays};
 ghost use Rattle.run.specs.Lists.{SameLists};
 ghost use Rattle.client.specs.Sessions.{Conducted};
 
@@ -25,8 +26,10 @@ pub fn conduct<S: Store, R: Source>(
     lists: &mut Lists<'_>,
 ) -> Session
     ensures own { SameLists lists.old lists.new }
+    ensures same { Stays S.width S.starting store.old store.new }
     ensures conducted { Conducted (tree_of sheet.now) (S.width store.old) fuel
-        (S.starting store.old) calls.now lists.old.mark.now result lists.new.mark.now }
+        (S.starting store.old) asked.now calls.now lists.old (R.waiting source.old)
+        result lists.new (R.waiting source.new) }
 {
     let mut walk = start(fuel);
     let mut taken = Taken::default();

@@ -3,10 +3,10 @@ use Rattle.client.proofs.Taking.{takes_kept, takes_close}
 use Rattle.client.proofs.act.close.Goals as goal
 
 pub returns-in-Ok : goal.returns-in-Ok
-returns-in-Ok c = λ s n S ps ws t list.
+returns-in-Ok c = λ s n v S ps ws t list ns.
     let closes = c.in-Ok.ensures S ps ws in
     let told = c.figures.ensures in
-    takes_close s n _ t list _ (record { was_finished = closes.was_finished; figures_are = told ∙ closes.figures_are })
+    takes_close s n v _ t list ns _ (record { was_finished = closes.was_finished; figures_are = told ∙ closes.figures_are })
 
 pub returns-in-Err : goal.returns-in-Err
-returns-in-Err c = λ s n S ps ws t list. takes_kept s n _ _ t list _ (c.in-Err.ensures S ps ws)
+returns-in-Err c = λ s n v S ps ws t list ns. takes_kept s n v _ _ t list ns _ (c.in-Err.ensures S ps ws)

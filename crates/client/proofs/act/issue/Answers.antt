@@ -16,8 +16,8 @@ returns-clause-room g c =
 pub returns-clause-takes : goal.returns-clause-takes
 returns-clause-takes g c =
     let list = c.args.lists.now.mark.now in
-    takes_noted _ _ _ _ _ _ c.next_over-answer.result c.args.taken.now _ list c.next_over-answer.new.mark
-    (fields_are c.args.sheet.now) c.requires.room
+    λ asked ns. takes_noted _ _ _ _ _ _ _ c.next_over-answer.result c.args.taken.now _ list c.next_over-answer.new.mark
+    ns refl refl refl (fields_are c.args.sheet.now) c.requires.room
     (between_to_end list c.args.taken.now.entries (length list) (omega arith)) c.next_over-answer.auto.mark
     c.next_over-answer.ensures.step (c.note.ensures ∙ ap (λ k. noted k c.next_over-answer.result c.args.taken.now) c.field_count.ensures)
 

@@ -3,7 +3,7 @@ use Rattle.std.proofs.lemmas.List.{take_all}
 use Rattle.sheet.specs.Sheets.{tree_of}
 use Rattle.sheet.proofs.Keeps.{every_sheet_keeps_lem}
 use Rattle.client.proofs.Taking.{takes_on}
-use Rattle.client.proofs.Lending.{same_none, same_on}
+use Rattle.client.proofs.Lending.{same_none, same_on, same_served}
 use Rattle.client.proofs.Conducting.{takes_nothing, conducted_all, conducted_closed}
 use Rattle.client.proofs.conduct.conduct.Goals as goal
 
@@ -13,7 +13,7 @@ loop-call-init g c = record {
   wide = refl;
   starting = refl;
   own = same_none;
-  takes = takes_nothing _ _ _ _ _ c.default-taken.ensures.0 c.default-taken.ensures.1;
+  takes = takes_nothing _ _ _ _ _ _ _ c.default-taken.ensures.0 c.default-taken.ensures.1;
 }
 
 pub loop-call-preserved : goal.loop-call-preserved
@@ -26,7 +26,8 @@ loop-call-preserved g c =
       starting = on.same.1 ∙ inv.starting;
       own = same_on inv.own on.own;
       takes =
-          takes_on _ c.args.calls.now c.loop-call.call-index _ inv.wide c.loop-call-test.true refl
+          takes_on _ _ c.args.calls.now c.loop-call.call-index _ inv.wide (same_served c.args.asked.now inv.own)
+          c.loop-call-test.true refl
           (omega arith) inv.takes on.takes;
     }
 
@@ -43,9 +44,10 @@ returns-in-Break-clause-conducted g c =
     start.law (tree_of sh) (every_sheet_keeps_lem sh) (st.width s) (st.starting s) (st.sound.started s)
     c.args.lists.now.picks.now c.args.lists.now.widths.now in
     let fresh = start.fresh (st.starting s) c.args.lists.now.picks.now c.args.lists.now.widths.now in
-    conducted_closed (tree_of sh) (st.width s) c.args.fuel (st.starting s) _ (take (i + 1) calls)
-    (drop (i + 1) calls) calls _ _ c.args.lists.now.mark.now _ law fresh start.fuel refl
-    (takes_on _ calls i _ inv.wide c.loop-call-test.true refl (omega arith) inv.takes
+    conducted_closed (tree_of sh) (st.width s) c.args.fuel (st.starting s) c.start-walk.result c.args.asked.now (take (i + 1) calls)
+    (drop (i + 1) calls) calls _ _ c.args.lists.now _ _ _ law fresh start.fuel
+    (takes_on _ _ calls i _ inv.wide (same_served c.args.asked.now inv.own) c.loop-call-test.true refl (omega arith)
+    inv.takes
     c.in-Break.ensures.takes) (sym (take-append-drop (i + 1) calls))
 
 pub returns-clause-conducted : goal.returns-clause-conducted
@@ -60,5 +62,5 @@ returns-clause-conducted g c =
     start.law (tree_of sh) (every_sheet_keeps_lem sh) (st.width s) (st.starting s) (st.sound.started s)
     c.args.lists.now.picks.now c.args.lists.now.widths.now in
     let fresh = start.fresh (st.starting s) c.args.lists.now.picks.now c.args.lists.now.widths.now in
-    conducted_all (tree_of sh) (st.width s) c.args.fuel (st.starting s) _ _ _ calls _ c.args.lists.now.mark.now _ law
-    fresh start.fuel refl (take_all c.loop-call.call-index calls c.loop-call-test.false) inv.takes
+    conducted_all (tree_of sh) (st.width s) c.args.fuel (st.starting s) c.start-walk.result c.loop-call.walk _ c.args.asked.now _ calls _
+    c.args.lists.now _ _ _ law fresh start.fuel (take_all c.loop-call.call-index calls c.loop-call-test.false) inv.takes

@@ -3,7 +3,7 @@ use Rattle.sheet.specs.Sheets.{tree_of}
 use Rattle.run.specs.Lists.{SameLists}
 use Rattle.walk.specs.Lending.{watch_over}
 use Rattle.walk.specs.Law.{running}
-use Rattle.client.specs.Sessions.{Takes}
+use Rattle.client.specs.Sessions.{served, Takes}
 use Rattle.client.proofs.Conducting.{nothing}
 use Rattle.client.proofs.conduct.conduct.Given as goal
 
@@ -15,8 +15,9 @@ invariant-loop-call g l = record {
   starting : g.S.Store.starting l.store ≡ g.S.Store.starting l.initial.store;
   own : SameLists l.initial.lists l.lists;
   takes :
-      Takes (tree_of l.sheet) (g.S.Store.width l.initial.store)
+      Takes (tree_of l.sheet) (g.S.Store.width l.initial.store) (served l.asked l.initial.lists)
       (running (watch_over l.initial.walk (g.S.Store.starting l.initial.store) l.initial.lists))
-      nothing l.initial.lists.mark.now (take l.call-index l.calls)
-      (running (watch_over l.walk (g.S.Store.starting l.store) l.lists)) l.taken l.lists.mark.now;
+      nothing l.initial.lists.mark.now (g.R.Source.waiting l.initial.source) (take l.call-index l.calls)
+      (running (watch_over l.walk (g.S.Store.starting l.store) l.lists)) l.taken l.lists.mark.now
+      (g.R.Source.waiting l.source);
 }
