@@ -2,7 +2,7 @@
 use crate::expected::{Expected, ROOM};
 use lines::Piece;
 use lines::Piece::{Number, Numbers, Text};
-use run::answer::Ended;
+use run::answer::{Ended, Ran};
 use run::draw::draw;
 use run::lists::Lists;
 use sheet::table::Sheet;
@@ -21,10 +21,8 @@ pub(crate) fn walk<S: Store>(
     expected: &mut Expected<'_>,
 ) -> io::Result<()> {
     let mut walk = walk::start(fuel);
-    lists.widths.fill(0);
     // Counted, since what a walk answers does not tell the proof that it ends.
     for _ in 0..u64::MAX {
-        drop_closed(lists);
         let ended = match walk.next(sheet, store, lists) {
             Ok(Answer::Mark) => Ended::Mark,
             Ok(Answer::DeadEnd) => Ended::DeadEnd,
@@ -32,8 +30,11 @@ pub(crate) fn walk<S: Store>(
             Ok(Answer::Finished) => break,
             Err(_) => return Err(io::Error::other("a walk is refused")),
         };
-        let length = lists.widths.iter().take_while(|width| **width != 0).count();
-        compare_run(Some(ended), length, sheet.field_count(), lists, expected)?;
+        let ran = Ran {
+            ended: Some(ended),
+            length: walk.trace_length(),
+        };
+        compare_run(ran, sheet.field_count(), lists, expected)?;
     }
     let tallies = walk.tally();
     let mut line = [0u8; ROOM];
@@ -55,7 +56,7 @@ pub(crate) fn draws<R: Source>(
         let ran = draw(sheet, &mut store, fuel, source, lists).map_err(|_| io::Error::other(
             "a draw is refused",
         ))?;
-        compare_run(ran.ended, ran.length, sheet.field_count(), lists, expected)?;
+        compare_run(ran, sheet.field_count(), lists, expected)?;
         if ran.ended.is_none() || ran.length == 0 {
             break;
         }
@@ -63,40 +64,16 @@ pub(crate) fn draws<R: Source>(
     Ok(())
 }
 
-// Drops the entries that the next run of a walk will not follow, those after the last that can be raised: a walk does
-// not tell how long its trace is, and so a width of 0, which no choice has, ends it.
-fn drop_closed(lists: &mut Lists<'_>) {
-    let kept = last_open(lists);
-    if let Some(dropped) = lists.widths.get_mut(kept..) {
-        dropped.fill(0);
-    }
-}
-
-// How many entries there are up to the last that can be raised.
-fn last_open(lists: &Lists<'_>) -> usize {
-    let mut kept = 0;
-    for (i, (pick, width)) in lists.picks.iter().zip(lists.widths.iter()).enumerate() {
-        if *width == 0 {
-            break;
-        }
-        if u32::from(*pick) + 1 < u32::from(*width) {
-            kept = i + 1;
-        }
-    }
-    kept
-}
-
 // Compares a run's line: its end, and each entry of its trace. It goes in pieces, since a trace may be long.
 fn compare_run(
-    ended: Option<Ended>,
-    length: usize,
+    ran: Ran<Option<Ended>>,
     fields: usize,
     lists: &Lists<'_>,
     expected: &mut Expected<'_>,
 ) -> io::Result<()> {
     let mark = lists.mark.get(..fields).unwrap_or(&[]);
-    expected.compare_pieces(&[end_piece(ended, mark)])?;
-    for (pick, width) in lists.picks.iter().zip(lists.widths.iter()).take(length) {
+    expected.compare_pieces(&[end_piece(ran.ended, mark)])?;
+    for (pick, width) in lists.picks.iter().zip(lists.widths.iter()).take(ran.length) {
         let entry = [
             Text(b" "),
             Number(u64::from(*pick)),
