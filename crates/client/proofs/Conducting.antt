@@ -7,14 +7,14 @@ use Rattle.meaning.specs.Walks.{WholeWalk}
 use Rattle.walk.specs.declared.answer.Tallies.{Tallies}
 use Rattle.run.specs.declared.lists.Lists.{Lists as Borrowed}
 use Rattle.walk.specs.declared.state.Walk.{Walk}
-use Rattle.walk.specs.Watching.{Fresh}
+use Rattle.walk.specs.Watching.{Watched, Fresh}
 use Rattle.walk.specs.Lending.{watch_over}
 use Rattle.walk.specs.Calls.{Reply, gives, finished}
 use Rattle.walk.specs.Law as law
 use Rattle.walk.specs.Law.{Law, History, Stage, running, closed, Among}
 use Rattle.client.specs.declared.call.Call.{Call}
 use Rattle.client.specs.declared.call.Taken.{Taken}
-use Rattle.client.specs.Sessions.{ended, numbers_in, put_at, Served, served, Takes, FiguresAre, CallsMade, StandsOver, Conducted}
+use Rattle.client.specs.Sessions.{ended, numbers_in, put_at, Served, served, Takes, FiguresAre, CallsMade, Conducted}
 use Rattle.client.proofs.Taking.{takes_none}
 
 -- nothing taken yet
@@ -26,13 +26,13 @@ took k b = record { entries = k; finished = b }
 
 -- no call takes a session from nothing to what has no entry and is not finished
 pub takes_nothing :
-    (s : Sheet) (n : ℕ) (u : Served) (z : Stage) (t : Taken) (list ns : List ℕ)
+    (s : Sheet) (n : ℕ) (u : Served) (v : Watched) (t : Taken) (list ns : List ℕ)
     → t.entries ≡ 0
     → t.finished ≡ false
-    → Takes s n u z nothing list ns [] z t list ns
-takes_nothing s n u z t list ns e f =
-    subst (λ (x : Taken). Takes s n u z nothing list ns [] z x list ns)
-    (sym (ap (λ k. took k t.finished) e ∙ ap (λ b. took 0 b) f)) (takes_none s n u z nothing list ns)
+    → Takes s n u (running v) nothing list ns [] (running v) t list ns v.picks v.widths
+takes_nothing s n u v t list ns e f =
+    subst (λ (x : Taken). Takes s n u (running v) nothing list ns [] (running v) x list ns v.picks v.widths)
+    (sym (ap (λ k. took k t.finished) e ∙ ap (λ b. took 0 b) f)) (takes_none s n u v nothing list ns)
 
 among_ended : (rs : List Reply) → Among finished rs → ended rs ≡ true
 among_ended [] h = elim h [ ]
@@ -54,12 +54,11 @@ conducted :
     → w.fuel ≡ fuel
     → (k :
     Takes s n (served asked before) (running (watch_over w S before)) nothing before.mark.now ns cs z t
-    after.mark.now ns')
+    after.mark.now ns' after.picks.now after.widths.now)
     → CallsMade figures cs given
     → FiguresAre figures (law.replies (k.leads_on (watch_over w S before) ns law.none refl refl).0)
-    → StandsOver z after.picks.now after.widths.now
     → Conducted s n fuel S asked given before ns (record { taken = t; figures = figures }) after ns'
-conducted s n fuel S w asked cs given z t figures before after ns ns' l fresh f k called figured stands =
+conducted s n fuel S w asked cs given z t figures before after ns ns' l fresh f k called figured =
     let led = k.leads_on (watch_over w S before) ns law.none refl refl in
     let h = led.0 in
     let all : law.replies h ≡ k.replies = led.2 in
@@ -71,7 +70,7 @@ conducted s n fuel S w asked cs given z t figures before after ns ns' l fresh f 
       history = h;
       called = subst (λ (q : List Call). CallsMade figures q given) (sym led.1) called;
       given = led.3;
-      stands = stands;
+      stands = led.4;
       entries = k.entries ∙ zero-add _ ∙ ap (λ q. length (numbers_in q)) (sym all);
       listed = k.listed ∙ ap (λ q. put_at 0 (numbers_in q) before.mark.now) (sym all);
       finished = k.finished ∙ ap ended (sym all);
@@ -97,11 +96,11 @@ pub conducted_all :
     → w.fuel ≡ fuel
     → cs ≡ given
     → Takes s n (served asked before) (running (watch_over w S before)) nothing before.mark.now ns cs
-    (running (watch_over v P after)) t after.mark.now ns'
+    (running (watch_over v P after)) t after.mark.now ns' after.picks.now after.widths.now
     → Conducted s n fuel S asked given before ns (record { taken = t; figures = None }) after ns'
 conducted_all s n fuel S w v P asked cs given t before after ns ns' l fresh f called k =
     conducted s n fuel S w asked cs given (running (watch_over v P after)) t None before after ns ns' l fresh f k
-    called tt (refl, refl)
+    called tt
 
 -- a session that closed its walk
 pub conducted_closed :
@@ -111,10 +110,10 @@ pub conducted_closed :
     → Fresh (watch_over w S before)
     → w.fuel ≡ fuel
     → Takes s n (served asked before) (running (watch_over w S before)) nothing before.mark.now ns cs
-    (closed figures) t after.mark.now ns'
+    (closed figures) t after.mark.now ns' after.picks.now after.widths.now
     → given ≡ cs ++ rest
     → Conducted s n fuel S asked given before ns (record { taken = t; figures = Some figures }) after ns'
 conducted_closed s n fuel S w asked cs rest given t figures before after ns ns' l fresh f k called =
     let h = (k.leads_on (watch_over w S before) ns law.none refl refl).0 in
     conducted s n fuel S w asked cs given (closed figures) t (Some figures) before after ns ns' l fresh f k
-    (rest, called) (l.tallied h, among_ended (law.replies h) (l.closed_finished h)) tt
+    (rest, called) (l.tallied h, among_ended (law.replies h) (l.closed_finished h))

@@ -15,20 +15,20 @@ use Rattle.walk.specs.declared.answer.Answer.TheVariants as answer
 use Rattle.walk.specs.Watching.{Watched}
 use Rattle.walk.specs.Calls.{Lent, Nexts, Reads, Keeps, Closes}
 use Rattle.walk.specs.Law as law
-use Rattle.walk.specs.Law.{Stage, running, closed, replied}
+use Rattle.walk.specs.Law.{History, Stage, running, closed, replied}
 use Rattle.client.specs.declared.call.Call.{Call}
 use Rattle.client.specs.declared.call.Call.TheVariants as call
 use Rattle.client.specs.declared.call.Taken.{Taken}
-use Rattle.client.specs.Sessions.{calls_of, ended, numbers_in, put_at, Served, LeadsOn, Takes, noted, Draws}
+use Rattle.client.specs.Sessions.{calls_of, ended, numbers_in, put_at, Served, Stands, LeadsOn, Takes, noted, Draws}
 use Rattle.client.proofs.Lists.{numbers_append, ended_append, put_none, put_more, put_part}
 
 -- calls that reply nothing and fill nothing
 pub takes_silent :
     (s : Sheet) (n : ℕ) (u : Served) (z : Stage) (t : Taken) (list ns : List ℕ) (cs : List Call) (z' : Stage)
-    (ns' : List ℕ)
-    → LeadsOn s n u z t.entries ns cs [] z' ns'
-    → Takes s n u z t list ns cs z' t list ns'
-takes_silent s n u z t list ns cs z' ns' leads = record {
+    (ns' ps ws : List ℕ)
+    → LeadsOn s n u z t.entries ns cs [] z' ns' ps ws
+    → Takes s n u z t list ns cs z' t list ns' ps ws
+takes_silent s n u z t list ns cs z' ns' ps ws leads = record {
   replies = [];
   leads_on = leads;
   entries = sym (add-zero t.entries);
@@ -36,21 +36,32 @@ takes_silent s n u z t list ns cs z' ns' leads = record {
   finished = sym (or-false t.finished);
 }
 
+-- a walk that runs stands over its own trace lists
+stands_running :
+    {s : Sheet} {n : ℕ} {w v : Watched} (h : History s n w (running v))
+    → Stands h v.picks v.widths
+stands_running law.none = (refl, refl)
+stands_running (law.next h x r marks p) = (refl, refl)
+stands_running (law.draw h fuel waiting rest own own' r p e) = (refl, refl)
+stands_running (law.check h m fuel r p) = (refl, refl)
+stands_running (law.tally h k p) = (refl, refl)
+stands_running (law.kept h e p) = (refl, refl)
+
 pub takes_none :
-    (s : Sheet) (n : ℕ) (u : Served) (z : Stage) (t : Taken) (list ns : List ℕ)
-    → Takes s n u z t list ns [] z t list ns
-takes_none s n u z t list ns =
-    takes_silent s n u z t list ns [] z ns
-    (λ w f h g e. (h, sym (append-nil (calls_of h)), sym (append-nil (law.replies h)), g))
+    (s : Sheet) (n : ℕ) (u : Served) (v : Watched) (t : Taken) (list ns : List ℕ)
+    → Takes s n u (running v) t list ns [] (running v) t list ns v.picks v.widths
+takes_none s n u v t list ns =
+    takes_silent s n u (running v) t list ns [] (running v) ns v.picks v.widths
+    (λ w f h g e. (h, sym (append-nil (calls_of h)), sym (append-nil (law.replies h)), g, stands_running h))
 
 pub takes_more :
-    {s : Sheet} {n : ℕ} {u : Served} {z z₁ z₂ : Stage} {t t₁ t₂ : Taken} {list list₁ list₂ ns ns₁ ns₂ : List ℕ}
+    {s : Sheet} {n : ℕ} {u : Served} {z z₁ z₂ : Stage} {t t₁ t₂ : Taken} {list list₁ list₂ ns ns₁ ns₂ ps₁ ws₁ ps₂ ws₂ : List ℕ}
     {cs ds : List Call}
     → t.entries ≤ length list
-    → Takes s n u z t list ns cs z₁ t₁ list₁ ns₁
-    → Takes s n u z₁ t₁ list₁ ns₁ ds z₂ t₂ list₂ ns₂
-    → Takes s n u z t list ns (cs ++ ds) z₂ t₂ list₂ ns₂
-takes_more {s} {n} {u} {z} {z₁} {z₂} {t} {t₁} {t₂} {list} {list₁} {list₂} {ns} {ns₁} {ns₂} {cs} {ds} h a b =
+    → Takes s n u z t list ns cs z₁ t₁ list₁ ns₁ ps₁ ws₁
+    → Takes s n u z₁ t₁ list₁ ns₁ ds z₂ t₂ list₂ ns₂ ps₂ ws₂
+    → Takes s n u z t list ns (cs ++ ds) z₂ t₂ list₂ ns₂ ps₂ ws₂
+takes_more {s} {n} {u} {z} {z₁} {z₂} {t} {t₁} {t₂} {list} {list₁} {list₂} {ns} {ns₁} {ns₂} {ps₁} {ws₁} {ps₂} {ws₂} {cs} {ds} h a b =
     let xs = numbers_in a.replies in
     let ys = numbers_in b.replies in
     let both = numbers_append a.replies b.replies in
@@ -66,6 +77,7 @@ takes_more {s} {n} {u} {z} {z₁} {z₂} {t} {t₁} {t₂} {list} {list₁} {lis
             two.1 ∙ ap (λ q. q ++ ds) one.1 ∙ append_assoc (calls_of g) cs ds,
             two.2 ∙ ap (λ q. q ++ b.replies) one.2 ∙ append_assoc (law.replies g) a.replies b.replies,
             two.3,
+            two.4,
           );
       entries =
           b.entries ∙ ap (λ q. q + length ys) a.entries ∙ add_assoc t.entries (length xs) (length ys)
@@ -90,9 +102,9 @@ leads_next :
     (marks : List ℕ)
     → LentOf u k x
     → Nexts s n v x r v' marks
-    → LeadsOn s n u (running v) k ns (call.Next ∷ []) (replied n r marks) (running v') ns
+    → LeadsOn s n u (running v) k ns (call.Next ∷ []) (replied n r marks) (running v') ns v'.picks v'.widths
 leads_next s n u v v' k ns x r marks l p = λ w f h g e.
-    (law.next h x r marks p, refl, refl, (g, l.0, l.1, ap (λ q. q + length x.marks) e ∙ l.2))
+    (law.next h x r marks p, refl, refl, (g, l.0, l.1, ap (λ q. q + length x.marks) e ∙ l.2), (refl, refl))
 
 -- what is lent of a list from a place on is as long as the list past it
 part_long : (k : ℕ) (list part : List ℕ) → k ≤ length list → part ≡ drop k list → k + length part ≡ length list
@@ -111,7 +123,7 @@ takes_next :
     → length marks ≡ length x.marks
     → Nexts s n v x r v' marks
     → Takes s n u (running v) t list ns (call.Next ∷ []) (running v') (noted f r t)
-    (put_mid t.entries (length list - t.entries) list marks) ns
+    (put_mid t.entries (length list - t.entries) list marks) ns v'.picks v'.widths
 takes_next s n f u v v' x (Ok answer.Mark) t list marks ns lends d h e l p =
     let m = take n marks in
     let wide : length m ≡ n = length-take-le n marks (let room = p.roomy.mark in omega (arith, l)) in
@@ -167,11 +179,11 @@ pub takes_noted :
     → Nexts s n v x r v' marks
     → t' ≡ noted f r t
     → Takes s n u (running v) t list ns (call.Next ∷ []) (running v') t'
-    (put_mid t.entries (length list - t.entries) list marks) ns
+    (put_mid t.entries (length list - t.entries) list marks) ns v'.picks v'.widths
 takes_noted s n f u v v' x r t t' list marks ns goals frames wide d h e l p is =
     subst
     (λ (q : Taken). Takes s n u (running v) t list ns (call.Next ∷ []) (running v') q
-    (put_mid t.entries (length list - t.entries) list marks) ns) (sym is)
+    (put_mid t.entries (length list - t.entries) list marks) ns v'.picks v'.widths) (sym is)
     (takes_next s n f u v v' x r t list marks ns (goals, frames, part_long t.entries list x.marks h e ∙ wide) d h e l
     p)
 
@@ -235,15 +247,16 @@ pub takes_draw :
     → c ≡ call.Draw fuel
     → Draws s n v.starting fuel u.goals u.frames ns ns'
     → v' ≡ v
-    → Takes s n u (running v) t list ns (c ∷ []) (running v') t list ns'
+    → Takes s n u (running v) t list ns (c ∷ []) (running v') t list ns' v'.picks v'.widths
 takes_draw s n u v v' t list ns ns' fuel c is d same =
-    subst (λ (q : Call). Takes s n u (running v) t list ns (q ∷ []) (running v') t list ns') (sym is)
-    (takes_silent s n u (running v) t list ns (call.Draw fuel ∷ []) (running v') ns'
+    subst (λ (q : Call). Takes s n u (running v) t list ns (q ∷ []) (running v') t list ns' v'.picks v'.widths) (sym is)
+    (takes_silent s n u (running v) t list ns (call.Draw fuel ∷ []) (running v') ns' v'.picks v'.widths
     (λ w f h g e. (
       law.draw h fuel ns ns' d.own d.own' d.result d.answers same,
       refl,
       sym (append-nil (law.replies h)),
       (g, refl, d.lists),
+      (refl, refl),
     )))
 
 -- a check of the mark asked for
@@ -253,58 +266,58 @@ pub takes_check :
     → c ≡ call.Check fuel
     → m ≡ u.asked
     → Right s m fuel (answer_of r)
-    → Takes s n u (running v) t list ns (c ∷ []) (running v) t list ns
+    → Takes s n u (running v) t list ns (c ∷ []) (running v) t list ns v.picks v.widths
 takes_check s n u v t list ns m fuel r c is asked p =
-    subst (λ (q : Call). Takes s n u (running v) t list ns (q ∷ []) (running v) t list ns) (sym is)
-    (takes_silent s n u (running v) t list ns (call.Check fuel ∷ []) (running v) ns
-    (λ w f h g e. (law.check h m fuel r p, refl, sym (append-nil (law.replies h)), (g, asked))))
+    subst (λ (q : Call). Takes s n u (running v) t list ns (q ∷ []) (running v) t list ns v.picks v.widths) (sym is)
+    (takes_silent s n u (running v) t list ns (call.Check fuel ∷ []) (running v) ns v.picks v.widths
+    (λ w f h g e. (law.check h m fuel r p, refl, sym (append-nil (law.replies h)), (g, asked), (refl, refl))))
 
 -- a tally
 pub takes_tally :
     (s : Sheet) (n : ℕ) (u : Served) (v : Watched) (t : Taken) (list ns : List ℕ) (k : Tallies) (c : Call)
     → c ≡ call.Tally
     → Reads v k
-    → Takes s n u (running v) t list ns (c ∷ []) (running v) t list ns
+    → Takes s n u (running v) t list ns (c ∷ []) (running v) t list ns v.picks v.widths
 takes_tally s n u v t list ns k c is p =
-    subst (λ (q : Call). Takes s n u (running v) t list ns (q ∷ []) (running v) t list ns) (sym is)
-    (takes_silent s n u (running v) t list ns (call.Tally ∷ []) (running v) ns
-    (λ w f h g e. (law.tally h k p, refl, sym (append-nil (law.replies h)), g)))
+    subst (λ (q : Call). Takes s n u (running v) t list ns (q ∷ []) (running v) t list ns v.picks v.widths) (sym is)
+    (takes_silent s n u (running v) t list ns (call.Tally ∷ []) (running v) ns v.picks v.widths
+    (λ w f h g e. (law.tally h k p, refl, sym (append-nil (law.replies h)), g, (refl, refl))))
 
 -- a close that is refused
 pub takes_kept :
     (s : Sheet) (n : ℕ) (u : Served) (v v' : Watched) (t : Taken) (list ns : List ℕ) (e : Refusal)
     → Keeps v e v'
-    → Takes s n u (running v) t list ns (call.Close ∷ []) (running v') t list ns
+    → Takes s n u (running v) t list ns (call.Close ∷ []) (running v') t list ns v'.picks v'.widths
 takes_kept s n u v v' t list ns e p =
-    takes_silent s n u (running v) t list ns (call.Close ∷ []) (running v') ns
-    (λ w f h g k. (law.kept h e p, refl, sym (append-nil (law.replies h)), g))
+    takes_silent s n u (running v) t list ns (call.Close ∷ []) (running v') ns v'.picks v'.widths
+    (λ w f h g k. (law.kept h e p, refl, sym (append-nil (law.replies h)), g, (refl, refl)))
 
 -- a close that is not
 pub takes_close :
     (s : Sheet) (n : ℕ) (u : Served) (v : Watched) (t : Taken) (list ns : List ℕ) (k : Tallies)
     → Closes v k
-    → Takes s n u (running v) t list ns (call.Close ∷ []) (closed k) t list ns
+    → Takes s n u (running v) t list ns (call.Close ∷ []) (closed k) t list ns v.picks v.widths
 takes_close s n u v t list ns k p =
-    takes_silent s n u (running v) t list ns (call.Close ∷ []) (closed k) ns
-    (λ w f h g e. (law.close h k p, refl, sym (append-nil (law.replies h)), g))
+    takes_silent s n u (running v) t list ns (call.Close ∷ []) (closed k) ns v.picks v.widths
+    (λ w f h g e. (law.close h k p, refl, sym (append-nil (law.replies h)), g, (refl, refl)))
 
 -- one call more of those that are given
 pub takes_on :
     {s : Sheet} {n : ℕ} (n₁ : ℕ) {u : Served} (u₁ : Served) {z z₁ z₂ : Stage} {t t₁ t₂ : Taken}
-    {list list₁ list₂ ns ns₁ ns₂ : List ℕ} (given : List Call) (i : ℕ) (c : Call)
+    {list list₁ list₂ ns ns₁ ns₂ ps₁ ws₁ ps₂ ws₂ : List ℕ} (given : List Call) (i : ℕ) (c : Call)
     → n₁ ≡ n
     → u₁ ≡ u
     → i < length given
     → get_or given i call.Next ≡ c
     → t.entries ≤ length list
-    → Takes s n u z t list ns (take i given) z₁ t₁ list₁ ns₁
-    → Takes s n₁ u₁ z₁ t₁ list₁ ns₁ (c ∷ []) z₂ t₂ list₂ ns₂
-    → Takes s n u z t list ns (take (i + 1) given) z₂ t₂ list₂ ns₂
-takes_on {s} {n} n₁ {u} u₁ {z} {z₁} {z₂} {t} {t₁} {t₂} {list} {list₁} {list₂} {ns} {ns₁} {ns₂} given i c same
+    → Takes s n u z t list ns (take i given) z₁ t₁ list₁ ns₁ ps₁ ws₁
+    → Takes s n₁ u₁ z₁ t₁ list₁ ns₁ (c ∷ []) z₂ t₂ list₂ ns₂ ps₂ ws₂
+    → Takes s n u z t list ns (take (i + 1) given) z₂ t₂ list₂ ns₂ ps₂ ws₂
+takes_on {s} {n} n₁ {u} u₁ {z} {z₁} {z₂} {t} {t₁} {t₂} {list} {list₁} {list₂} {ns} {ns₁} {ns₂} {ps₁} {ws₁} {ps₂} {ws₂} given i c same
     served h is room a b =
     let more : take i given ++ (c ∷ []) ≡ take (i + 1) given =
     ap (λ (q : Call). take i given ++ (q ∷ [])) (sym is) ∙ sym (take_more given i call.Next h) in
-    subst (λ (q : List Call). Takes s n u z t list ns q z₂ t₂ list₂ ns₂) more
+    subst (λ (q : List Call). Takes s n u z t list ns q z₂ t₂ list₂ ns₂ ps₂ ws₂) more
     (takes_more room a
-    (subst (λ (q : Served). Takes s n q z₁ t₁ list₁ ns₁ (c ∷ []) z₂ t₂ list₂ ns₂) served
-    (subst (λ (q : ℕ). Takes s q u₁ z₁ t₁ list₁ ns₁ (c ∷ []) z₂ t₂ list₂ ns₂) same b)))
+    (subst (λ (q : Served). Takes s n q z₁ t₁ list₁ ns₁ (c ∷ []) z₂ t₂ list₂ ns₂ ps₂ ws₂) served
+    (subst (λ (q : ℕ). Takes s q u₁ z₁ t₁ list₁ ns₁ (c ∷ []) z₂ t₂ list₂ ns₂ ps₂ ws₂) same b)))

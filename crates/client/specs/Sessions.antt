@@ -103,24 +103,34 @@ Given v ns (law.tally h k p) ns' = Given v ns h ns'
 Given v ns (law.kept h e p) ns' = Given v ns h ns'
 Given v ns (law.close h k p) ns' = Given v ns h ns'
 
+-- the walk stands over these trace lists where the history ends, or where it was closed
+abbrev pub Stands : {s : Sheet} {n : ℕ} {w : Watched} {z : Stage} → History s n w z → (picks widths : List ℕ) → Type 0
+Stands {w = w} law.none ps ws = (w.picks ≡ ps) × (w.widths ≡ ws)
+Stands (law.next {v' = v'} h x r marks p) ps ws = (v'.picks ≡ ps) × (v'.widths ≡ ws)
+Stands (law.draw {v' = v'} h fuel waiting rest own own' r p e) ps ws = (v'.picks ≡ ps) × (v'.widths ≡ ws)
+Stands (law.check {v = v} h m fuel r p) ps ws = (v.picks ≡ ps) × (v.widths ≡ ws)
+Stands (law.tally {v = v} h k p) ps ws = (v.picks ≡ ps) × (v.widths ≡ ws)
+Stands (law.kept {v' = v'} h e p) ps ws = (v'.picks ≡ ps) × (v'.widths ≡ ws)
+Stands (law.close {v = v} h k p) ps ws = (v.picks ≡ ps) × (v.widths ≡ ws)
+
 -- from every history that stands at z, whose marks fill k entries and whose draws left the numbers ns, the calls cs lead
--- on to z' and leave ns', and their nexts reply rs
+-- on to z' and leave ns' and these trace lists, and their nexts reply rs
 abbrev pub LeadsOn :
     Sheet → ℕ → Served → (z : Stage) → (k : ℕ) → (ns : List ℕ) → List Call → List Reply → (z' : Stage)
-    → (ns' : List ℕ) → Type 0
-LeadsOn s n v z k ns cs rs z' ns' =
+    → (ns' picks widths : List ℕ) → Type 0
+LeadsOn s n v z k ns cs rs z' ns' ps ws =
     (w : Watched) (first : List ℕ) (h : History s n w z)
     → Given v first h ns
     → length (numbers_in (law.replies h)) ≡ k
     → (h' : History s n w z') × (calls_of h' ≡ calls_of h ++ cs) × (law.replies h' ≡ law.replies h ++ rs)
-    × Given v first h' ns'
+    × Given v first h' ns' × Stands h' ps ws
 
 -- the calls cs take a session from z, with what it took, the list of marks and the numbers that wait, to z'
 pub record Takes
     (s : Sheet) (n : ℕ) (v : Served) (z : Stage) (t : Taken) (list ns : List ℕ) (cs : List Call) (z' : Stage)
-    (t' : Taken) (list' ns' : List ℕ) : Type 0 where
+    (t' : Taken) (list' ns' picks widths : List ℕ) : Type 0 where
   pub replies : List Reply
-  pub leads_on : LeadsOn s n v z t.entries ns cs replies z' ns'
+  pub leads_on : LeadsOn s n v z t.entries ns cs replies z' ns' picks widths
   pub entries : t'.entries ≡ t.entries + length (numbers_in replies)
   pub listed : list' ≡ put_at t.entries (numbers_in replies) list
   pub finished : t'.finished ≡ (t.finished || ended replies)
@@ -157,11 +167,6 @@ abbrev pub CallsMade : Option Tallies → (made given : List Call) → Type 0
 CallsMade None made given = made ≡ given
 CallsMade (Some k) made given = (rest : List Call) × (given ≡ made ++ rest)
 
--- the walk, where it runs still, stands over these trace lists
-abbrev pub StandsOver : Stage → (picks widths : List ℕ) → Type 0
-StandsOver (running w) ps ws = (w.picks ≡ ps) × (w.widths ≡ ws)
-StandsOver (closed k) ps ws = Unit {0}
-
 -- what a session with the calls cs leaves, over a store of n fields with the starting set S, where checks read the mark
 -- asked for, and the numbers ns waited in the source and ns' do afterwards
 pub record Conducted
@@ -175,7 +180,7 @@ pub record Conducted
   pub history : History s n (watch_over walk S before) stage
   pub called : CallsMade r.figures (calls_of history) cs
   pub given : Given (served asked before) ns history ns'
-  pub stands : StandsOver stage after.picks.now after.widths.now
+  pub stands : Stands history after.picks.now after.widths.now
   -- what it took is what the nexts replied
   pub entries : r.taken.entries ≡ length (numbers_in (law.replies history))
   pub listed : after.mark.now ≡ put_at 0 (numbers_in (law.replies history)) before.mark.now

@@ -73,7 +73,7 @@ impl Taken {
 fn close(walk: Walk) -> ControlFlow<Tallies, Walk>
     ensures { (s : Formulas) (n : ℕ) (v : Served) (S : Marks) (ps ws : List ℕ) (t : Taken) (list ns : List ℕ) →
         Takes s n v (running (watch walk S ps ws)) t list ns (Call.Close ∷ [])
-        (stage_of result S ps ws) t list ns }
+        (stage_of result S ps ws) t list ns ps ws }
 {
     match walk.close() {
         Ok(closed) => ControlFlow::Break(closed.figures()),
@@ -128,7 +128,7 @@ fn issue<S: Store>(
         (running (watch_over walk.old (S.starting store.old) lists.old))
         taken.old lists.old.mark.now ns (Call.Next ∷ [])
         (running (watch_over walk.new (S.starting store.new) lists.new))
-        taken.new lists.new.mark.now ns }
+        taken.new lists.new.mark.now ns lists.new.picks.now lists.new.widths.now }
 {
     let answer = next_over(
         walk,
@@ -163,7 +163,8 @@ pub(crate) fn act<S: Store, R: Source>(
         (running (watch_over walk (S.starting store.old) lists.old))
         taken.old lists.old.mark.now (R.waiting source.old) (call ∷ [])
         (stage_of result (S.starting store.new) lists.new.picks.now lists.new.widths.now)
-        taken.new lists.new.mark.now (R.waiting source.new) }
+        taken.new lists.new.mark.now (R.waiting source.new)
+        lists.new.picks.now lists.new.widths.now }
 {
     match call {
         Call::Next => {

@@ -19,5 +19,5 @@ invariant-loop-call g l = record {
       (running (watch_over l.initial.walk (g.S.Store.starting l.initial.store) l.initial.lists))
       nothing l.initial.lists.mark.now (g.R.Source.waiting l.initial.source) (take l.call-index l.calls)
       (running (watch_over l.walk (g.S.Store.starting l.store) l.lists)) l.taken l.lists.mark.now
-      (g.R.Source.waiting l.source);
+      (g.R.Source.waiting l.source) l.lists.picks.now l.lists.widths.now;
 }
