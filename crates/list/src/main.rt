@@ -1,6 +1,14 @@
 // Lists the marks of a sheet from standard input, in the order of the walk over every mark.
 #![tactic(auto)]
 
+mod listing;
+
+ghost use Rattle.std.specs.Prelude.{length, OnOk};
+ghost use Rattle.marks.specs.Sets.{Marks};
+ghost use Rattle.sheet.specs.Sheets.{tree_of};
+ghost use Rattle.store.specs.Opens.{HasEvery};
+ghost use Rattle.list.specs.Listings.{Listed};
+
 use run::goal::{Frame, Goal};
 use run::lists::Lists;
 use sheet::table::Sheet;
@@ -10,7 +18,6 @@ use std::{env, io};
 use store::open::OpenStore;
 use streams::{TEXT_ROOM, put};
 use walk::MOST_ENTRIES;
-use walk::answer::Answer;
 
 // The fuel of a listing.
 const FUEL: u8 = 255;
@@ -43,8 +50,11 @@ fn main(rt: HostRuntime) -> io::Result<()> {
     out.flush()
 }
 
-// Walks the sheet over the open store: each mark's line as it comes, and the closing line.
-fn list<W: Write>(heap: Global, sheet: &Sheet, out: &mut W) -> io::Result<()> {
+// Walks the sheet over the open store, which has every mark of its fields.
+fn list<W: Write>(heap: Global, sheet: &Sheet, out: &mut W) -> io::Result<()>
+    ensures { OnOk result ((S : Marks) × HasEvery (length sheet.now.ranges.items) S
+        × Listed (tree_of sheet.now) 255 S (W.contents out.old) (W.contents out.new)) }
+{
     let mut store = OpenStore::new(sheet);
     let mut picks = vec![in heap; 0u16; MOST_ENTRIES]?;
     let mut widths = vec![in heap; 0u16; MOST_ENTRIES]?;
@@ -59,28 +69,5 @@ fn list<W: Write>(heap: Global, sheet: &Sheet, out: &mut W) -> io::Result<()> {
         frames: &mut frames,
         mark: &mut mark,
     };
-    let mut walk = walk::start(FUEL);
-    // Counted, since what a walk answers does not tell the proof that it ends.
-    for _ in 0..u64::MAX {
-        match walk.next(sheet, &mut store, &mut lists) {
-            Ok(Answer::Mark) => put_mark(sheet.field_count(), lists.mark, &mut line, out)?,
-            Ok(Answer::Finished) => break,
-            Ok(Answer::DeadEnd | Answer::Spent) => {}
-            Err(_) => return Err(io::Error::other("the walk is refused")),
-        }
-    }
-    let tallies = walk.tally();
-    put(
-        lines::closing_line(tallies.issued, tallies.dead, tallies.spent, &mut line),
-        &line,
-        out,
-    )
-}
-
-// Writes the line of the mark at the front of the mark list.
-fn put_mark<W: Write>(fields: usize, mark: &[u16], line: &mut [u8], out: &mut W) -> io::Result<()> {
-    let mark = mark
-        .get(..fields)
-        .ok_or_else(|| io::Error::other("the mark list is too short"))?;
-    put(lines::mark_line(mark, line), line, out)
+    listing::list(sheet, &mut store, FUEL, &mut lists, &mut line, out)
 }
