@@ -2,10 +2,18 @@
 // COUNT numbers of a seed.
 #![tactic(auto)]
 
-use lines::Piece::Text;
-use refusal::Refusal;
-use run::answer::{Ended, Ran};
-use run::draw::draw;
+mod series;
+
+ghost use Rattle.std.specs.Prelude.{ℕ, List, length, codes, OnOk};
+ghost use Rattle.std.specs.Io.KnownBytes.{Appends};
+ghost use Rattle.lines.specs.Lines.{one_text};
+ghost use Rattle.marks.specs.Sets.{Marks};
+ghost use Rattle.sheet.specs.Sheets.{tree_of};
+ghost use Rattle.source.specs.Sources.{in_seeded, Usable};
+ghost use Rattle.source.specs.Xorshift.{stream};
+ghost use Rattle.store.specs.Opens.{HasEvery};
+ghost use Rattle.draws.specs.Drawing.{ListedDraws};
+
 use run::goal::{Frame, Goal};
 use run::lists::Lists;
 use sheet::table::Sheet;
@@ -66,18 +74,39 @@ fn arguments(rt: &HostRuntime) -> io::Result<Option<Asked>> {
     }
 }
 
-// The draws over the open store, or the refusal of the seed or the count.
+// The draws by the first numbers of the seed, or the refusal of the seed or the count.
 fn put_draws<W: Write>(
     heap: Global,
     sheet: &Sheet,
     asked: Asked,
     line: &mut [u8],
     out: &mut W,
-) -> io::Result<()> {
-    let mut source = match Seeded::new(asked.seed, asked.count) {
-        Ok(source) => source,
-        Err(refusal) => return put(lines::refused_line(refusal, line), line, out),
-    };
+) -> io::Result<()>
+    ensures drawn { OnOk result (Usable asked.seed asked.count → (S : Marks)
+        × HasEvery (length sheet.now.ranges.items) S × (ls : List ℕ)
+        × ListedDraws (tree_of sheet.now) asked.fuel S (stream asked.seed asked.count) ls
+        (W.contents out.old) (W.contents out.new)) }
+    ensures refused { OnOk result ((Usable asked.seed asked.count → ⊥) →
+        Appends (W.contents out.old) (W.contents out.new) (one_text (codes "refused ") 18)) }
+{
+    match Seeded::new(asked.seed, asked.count) {
+        Ok(source) => list_draws(heap, sheet, asked.fuel, source, line, out),
+        Err(refusal) => put(lines::refused_line(refusal, line), line, out),
+    }
+}
+
+// Draws from the source over the open store, which has every mark of the sheet's fields.
+fn list_draws<W: Write>(
+    heap: Global,
+    sheet: &Sheet,
+    fuel: u8,
+    mut source: Seeded,
+    line: &mut [u8],
+    out: &mut W,
+) -> io::Result<()>
+    ensures { OnOk result ((S : Marks) × HasEvery (length sheet.now.ranges.items) S × (ls : List ℕ)
+        × ListedDraws (tree_of sheet.now) fuel S (in_seeded source) ls (W.contents out.old) (W.contents out.new)) }
+{
     let mut store = OpenStore::new(sheet);
     let mut picks = vec![in heap; 0u16; MOST_ENTRIES]?;
     let mut widths = vec![in heap; 0u16; MOST_ENTRIES]?;
@@ -91,39 +120,5 @@ fn put_draws<W: Write>(
         frames: &mut frames,
         mark: &mut mark,
     };
-    // A draw that goes on to another takes a number, so there is one more than numbers at the most.
-    for _ in 0..=asked.count {
-        let ran = draw(sheet, &mut store, asked.fuel, &mut source, &mut lists).map_err(
-            |_| io::Error::other("the draw is refused"),
-        )?;
-        put(
-            told(ran.ended, sheet.field_count(), lists.mark, line),
-            line,
-            out,
-        )?;
-        if is_last(ran) {
-            break;
-        }
-    }
-    Ok(())
-}
-
-// Whether no other draw follows: the numbers ran out, or a draw without a choice would be repeated without end.
-fn is_last(ran: Ran<Option<Ended>>) -> bool {
-    ran.ended.is_none() || ran.length == 0
-}
-
-// Makes the line of a draw.
-fn told(
-    ended: Option<Ended>,
-    fields: usize,
-    mark: &[u16],
-    line: &mut [u8],
-) -> Result<usize, Refusal> {
-    match ended {
-        Some(Ended::Mark) => lines::mark_line(mark.get(..fields).unwrap_or(mark), line),
-        Some(Ended::DeadEnd) => lines::write(&[Text(b"dead end\n")], line),
-        Some(Ended::Spent) => lines::write(&[Text(b"spent\n")], line),
-        None => lines::write(&[Text(b"dry\n")], line),
-    }
+    series::list_draws(sheet, &mut store, fuel, &mut source, &mut lists, line, out)
 }

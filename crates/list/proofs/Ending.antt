@@ -1,5 +1,5 @@
 -- The lines of a listing so far, and the whole listing once finished is answered.
-use Rattle.std.proofs.Common.{◌≡◌, ℕ, zero, suc, ◌<◌, ◌≤◌, List, [], ◌∷◌, ◌++◌, length, take, get_or, Ok, Err, Some, None, Option, Result, OnOk, sym, refl, ap, ◌∙◌, subst, inl, inr, append_assoc, append-nil, not-suc-le-zero, arith}
+use Rattle.std.proofs.Common.{◌≡◌, ℕ, zero, suc, ◌<◌, ◌≤◌, List, [], ◌∷◌, ◌++◌, length, take, get_or, Ok, Option, sym, refl, ap, ◌∙◌, subst, inl, inr, append_assoc, append-nil, not-suc-le-zero, arith}
 use Rattle.std.specs.Io.KnownBytes.{Appends}
 use Rattle.formula.specs.Trees.{Sheet}
 use Rattle.marks.specs.Sets.{Marks}
@@ -14,20 +14,9 @@ use Rattle.walk.specs.Calls.{Reply, gives, finished, Lent, Nexts}
 use Rattle.walk.specs.Law as law
 use Rattle.walk.specs.Law.{Law, History, running, outcomes, counts, made, replied, defined, Among}
 use Rattle.walk.proofs.Telling.{outcomes_append, among_back}
+use Rattle.streams.proofs.Appending.{nothing_more, and_more}
 use Rattle.list.specs.Listings.{mark_lines, figures_line, Listed}
 use Rattle.list.specs.Steps.{NextLine, answer_text}
-
--- bytes that a writer holds
-
-nothing_more : (a : Option (List ℕ)) → Appends a a []
-nothing_more None = tt
-nothing_more (Some x) = sym (append-nil x)
-
-and_more : (a b c : Option (List ℕ)) (xs ys : List ℕ) → Appends a b xs → Appends b c ys → Appends a c (xs ++ ys)
-and_more None b c xs ys h k = tt
-and_more (Some x) None c xs ys h k = absurd h
-and_more (Some x) (Some y) None xs ys h k = absurd k
-and_more (Some x) (Some y) (Some z) xs ys h k = k ∙ ap (λ l. l ++ ys) h ∙ append_assoc x xs ys
 
 -- lines of marks
 
@@ -155,7 +144,3 @@ listed {s} {n} {n₁} {fuel} {S} {w} {v} {v'} {before} {between} {after} {a} {k}
     subst (λ q. Listed s q S before end) f
     (subst (λ (q : Marks). Listed s w.fuel q before end) e
     (finished_listing s n w v v' before between after end l so ended closing))
-
-pub on_ok : {E P Q : Type 0} (r : Result (Unit {0}) E) → (P → Q) → OnOk r P → OnOk r Q
-on_ok (Ok x) f p = f p
-on_ok (Err e) f p = tt

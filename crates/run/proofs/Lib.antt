@@ -5,6 +5,7 @@ pub mod Frames
 pub mod Resolving
 pub mod Leaving
 pub mod Comparing
+pub mod Staying
 pub mod Passing
 pub mod Tables
 pub mod Turns

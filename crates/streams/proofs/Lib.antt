@@ -1,1 +1,2 @@
+pub mod Appending
 mod Coming

@@ -3,7 +3,8 @@ use Rattle.std.proofs.lemmas.List.{take_all}
 use Rattle.sheet.specs.Sheets.{tree_of}
 use Rattle.sheet.proofs.Keeps.{every_sheet_keeps_lem}
 use Rattle.client.proofs.Taking.{takes_on}
-use Rattle.client.proofs.Lending.{same_none, same_on, same_served}
+use Rattle.run.proofs.Staying.{same_none, same_on}
+use Rattle.client.proofs.Lending.{same_served}
 use Rattle.client.proofs.Conducting.{takes_nothing, conducted_all, conducted_closed}
 use Rattle.client.proofs.conduct.conduct.Goals as goal
 

@@ -1,8 +1,9 @@
 use Rattle.std.proofs.Common.{rules, refl, ◌∙◌}
 use Rattle.sheet.specs.Sheets.{tree_of}
 use Rattle.sheet.proofs.Keeps.{every_sheet_keeps_lem}
-use Rattle.list.proofs.Lending.{same_none, same_on}
-use Rattle.list.proofs.Ending.{none_yet, one_more, listed, on_ok}
+use Rattle.streams.proofs.Appending.{on_ok}
+use Rattle.run.proofs.Staying.{same_none, same_on}
+use Rattle.list.proofs.Ending.{none_yet, one_more, listed}
 use Rattle.list.proofs.listing.list.Goals as goal
 
 pub loop-init : goal.loop-init
