@@ -187,27 +187,35 @@ def counts():
         for join in ("and", "or"):
             yield read(f"field a 0 1 ; mark {chain(joins, join)} ;\n")
             yield read(f"field a 0 1 ; rule r ( ) : {chain(joins, join)} ; mark r ( ) ;\n")
-    # joins of a line are counted over all its levels, and anew for each line
-    yield read(f"field a 0 1 ; mark ( {chain(7)} ) or ( {chain(7)} ) or 1=1 ;\n")
-    yield read(f"field a 0 1 ; mark ( {chain(7)} ) or ( {chain(8)} ) or 1=1 ;\n")
-    yield read(f"field a 0 1 ; rule r ( ) : {chain(16)} ; rule s ( ) : {chain(16)} ; mark {chain(16)} ;\n")
-    # a name that nothing has, before and behind the line that passes a limit
-    yield read(f"field a 0 1 ; rule r ( ) : b = 1 ; mark {chain(17)} ;\n")
-    yield read(f"field a 0 1 ; rule r ( ) : {chain(17)} and b = 1 ; mark {chain(17)} ;\n")
+    lines = (
+        # joins of a line are counted over all its levels, and anew for each line
+        f"mark ( {chain(7)} ) or ( {chain(7)} ) or 1=1 ;",
+        f"mark ( {chain(7)} ) or ( {chain(8)} ) or 1=1 ;",
+        f"rule r ( ) : {chain(16)} ; rule s ( ) : {chain(16)} ; mark {chain(16)} ;",
+        # a name that nothing has, before and behind the line that passes a limit
+        f"rule r ( ) : b = 1 ; mark {chain(17)} ;",
+        f"rule r ( ) : {chain(17)} and b = 1 ; mark {chain(17)} ;",
+    )
+    for line in lines:
+        yield read(f"field a 0 1 ; {line}\n")
 
 
 def formula_counts():
     """256 formulas, and 257: 33 to a line of 16 joins, seven of them, and the rest in the mark line."""
     seven = "".join(f"rule r{at} ( ) : {chain(16)} ;\n" for at in range(7))
-    yield read(f"field a 0 1 ;\n{seven}mark {chain(12)} ;\n")
-    yield read(f"field a 0 1 ;\n{seven}mark not {chain(12)} ;\n")
-    yield read(f"field a 0 1 ;\n{seven}mark pick a {chain(12)} ;\n")
-    yield read(f"field a 0 1 ;\n{seven}mark ( {chain(12)} ) ;\n")
-    yield read(f"field a 0 1 ;\n{seven}mark r0 ( ) and {chain(11)} ;\n")
-    yield read(f"field a 0 1 ;\n{seven}mark r0 ( ) and {chain(12)} ;\n")
-    # the line that passes the limit is a rule
-    yield read(f"field a 0 1 ;\n{seven}rule r7 ( ) : {chain(16)} ;\nmark b = 1 ;\n")
-    yield read(f"field a 0 1 ;\n{seven}rule r7 ( ) : {chain(12)} ;\nmark 1 = 1 ;\n")
+    rest = (
+        f"mark {chain(12)} ;",
+        f"mark not {chain(12)} ;",
+        f"mark pick a {chain(12)} ;",
+        f"mark ( {chain(12)} ) ;",
+        f"mark r0 ( ) and {chain(11)} ;",
+        f"mark r0 ( ) and {chain(12)} ;",
+        # the line that passes the limit is a rule
+        f"rule r7 ( ) : {chain(16)} ;\nmark b = 1 ;",
+        f"rule r7 ( ) : {chain(12)} ;\nmark 1 = 1 ;",
+    )
+    for lines in rest:
+        yield read(f"field a 0 1 ;\n{seven}{lines}\n")
     # one line with 15 comparisons, 14 joins and 227 or 228 times not
     for rest in ([15] * 13 + [16] * 2, [15] * 12 + [16] * 3):
         yield read("field a 0 1 ; mark " + " and ".join("not " * nots + "1=1" for nots in rest) + " ;\n")

@@ -1,6 +1,6 @@
 -- What may stand at a place of a text, as far as the grammar tells: after the bytes before the place, a blank and a
 -- token, the text can still go on to a sheet.
-use Rattle.std.specs.Prelude.{◌≡◌, ℕ, ◌+◌, ◌<◌, ◌≤◌, Bool, List, ◌++◌, length, Some, Ok, Err, codes, Decides, Result, slice_get}
+use Rattle.std.specs.Prelude.{◌≡◌, ℕ, ◌+◌, ◌<◌, ◌≤◌, Bool, List, [], ◌∷◌, ◌++◌, length, Some, Ok, Err, codes, Decides, Result, slice_get}
 use Rattle.refusal.specs.declared.Refusal.{Refusal}
 use Rattle.refusal.specs.Table.{number}
 use Rattle.signs.specs.Tokens.{TokAt}
@@ -20,6 +20,12 @@ GoesOn text = (ts : List TokAt) × Tokenized text ts × Begins strict (tokens ts
 -- the text is cut into the tokens of a sheet
 abbrev pub WholeSheet : List ℕ → Type 0
 WholeSheet text = (ts : List TokAt) × Tokenized text ts × ((s : Sheet) × IsSheet (tokens ts) s)
+
+-- the kinds in the order in which they are told: what is named or counted, words, signs
+abbrev pub kinds : List Kind
+kinds =
+    kind.Name ∷ kind.Number ∷ kind.Field ∷ kind.Rule ∷ kind.Mark ∷ kind.And ∷ kind.Or ∷ kind.Not ∷ kind.Pick
+    ∷ kind.Open ∷ kind.Close ∷ kind.Comma ∷ kind.Semicolon ∷ kind.Colon ∷ kind.Plus ∷ kind.Minus ∷ kind.Compare ∷ []
 
 -- every kind stands in the list
 abbrev pub EveryKind : List Kind → Type 0

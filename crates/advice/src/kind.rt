@@ -1,6 +1,6 @@
 // The kinds of tokens, each with an example, and with the words that name it to a person.
 ghost use Rattle.std.specs.Prelude.{◌≡◌};
-ghost use Rattle.advice.specs.Permitted.{EveryKind, example_of, name_of};
+ghost use Rattle.advice.specs.Permitted.{EveryKind, kinds, example_of, name_of};
 
 #[derive(Clone, Copy, Debug, PartialEq, Eq)]
 pub enum Kind {
@@ -26,7 +26,8 @@ pub enum Kind {
 impl Kind {
     // Every kind, for a list of all that may stand at a place.
     pub fn all() -> [Kind; 17]
-        ensures { EveryKind result }
+        ensures order { result ≡ kinds }
+        ensures every { EveryKind result }
     {
         [
             Kind::Name,

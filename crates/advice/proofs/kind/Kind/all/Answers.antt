@@ -1,9 +1,9 @@
-use Rattle.std.proofs.Common.{[], ◌∷◌, refl}
+use Rattle.std.proofs.Common.{refl}
 use Rattle.advice.specs.declared.kind.Kind.TheVariants as kind
-use Rattle.advice.specs.Permitted.{EveryKind}
+use Rattle.advice.specs.Permitted.{EveryKind, kinds}
 use Rattle.advice.proofs.kind.Kind.all.Goals as goal
 
-every_kind : EveryKind (kind.Name ∷ kind.Number ∷ kind.Field ∷ kind.Rule ∷ kind.Mark ∷ kind.And ∷ kind.Or ∷ kind.Not ∷ kind.Pick ∷ kind.Open ∷ kind.Close ∷ kind.Comma ∷ kind.Semicolon ∷ kind.Colon ∷ kind.Plus ∷ kind.Minus ∷ kind.Compare ∷ [])
+every_kind : EveryKind kinds
 every_kind kind.Name = (0, refl)
 every_kind kind.Number = (1, refl)
 every_kind kind.Field = (2, refl)
@@ -22,5 +22,5 @@ every_kind kind.Plus = (14, refl)
 every_kind kind.Minus = (15, refl)
 every_kind kind.Compare = (16, refl)
 
-pub returns : goal.returns
-returns c = every_kind
+pub returns-clause-every : goal.returns-clause-every
+returns-clause-every c = every_kind
