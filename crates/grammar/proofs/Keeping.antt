@@ -2,7 +2,7 @@
 use Rattle.std.proofs.Common.{◌≡◌, ℕ, suc, ◌+◌, ◌<◌, ◌≤◌, Bool, true, false, ◌⊎◌, List, [], ◌∷◌, ◌++◌, map, length, take, is_some, Some, None, Option, sym, refl, ap, ◌∙◌, subst, inl, inr, append_assoc, arith, length-append}
 use lib.ListN.{length-map}
 use Rattle.std.proofs.lemmas.List.{take_all}
-use Rattle.arrayvec.specs.ArrayVec.{ArrayVec}
+use Rattle.grammar.specs.CopyVec.{CopyVec}
 use Rattle.grammar.specs.declared.table.Word.{Word as WordEntry}
 use Rattle.grammar.specs.declared.table.Node.{Node}
 use Rattle.grammar.specs.declared.table.FieldLine.{FieldLine}
@@ -220,11 +220,11 @@ module _ (text : List ℕ) where
           ]
 
       -- the line, as it is stored
-      abbrev line : ArrayVec WordEntry → RuleLine
+      abbrev line : CopyVec WordEntry → RuleLine
       line params = record { first = first; name = head.name; params = params; start = s; body = part.body }
 
       rule_stored :
-          (params : ArrayVec WordEntry) (more : ArrayVec RuleLine)
+          (params : CopyVec WordEntry) (more : CopyVec RuleLine)
           → params.items ≡ take head.params.count head.params.items
           → more.items ≡ b.rules.items ++ line params ∷ []
           → is_some b.over ≡ false
@@ -261,7 +261,7 @@ module _ (text : List ℕ) where
       rule_stored params more ps_is is none lt z x y (rule_over w below o h d u e) = absurd (some_none o none)
 
       pub rule_kept :
-          (a : Table) {v : Bool} (params : ArrayVec WordEntry) (more : ArrayVec RuleLine)
+          (a : Table) {v : Bool} (params : CopyVec WordEntry) (more : CopyVec RuleLine)
           → params.items ≡ take head.params.count head.params.items
           → more.items ≡ a.rules.items ++ line params ∷ []
           → (v ≡ false → length b.rules.items < 16)

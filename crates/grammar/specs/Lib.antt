@@ -1,3 +1,4 @@
+pub mod CopyVec
 pub mod Syntax
 pub mod Grammar
 pub mod Refusal

@@ -2,7 +2,6 @@
 -- They work with places in the text. `Left text p xs` says which tokens are left from a place on.
 use Rattle.std.specs.Prelude.{◌≡◌, ℕ, ◌+◌, ◌-◌, ◌<◌, ◌≤◌, Bool, true, false, cond, ◌⊎◌, List, [], ◌∷◌, ◌++◌, map, length, take, Option, is_some, Some, None, Ok, Err, codes, Result, ◌≢◌}
 use Rattle.std.specs.Str.{bytes_eq}
-use Rattle.arrayvec.specs.ArrayVec.{array_vec_len}
 use Rattle.refusal.specs.declared.Fault.{Fault}
 use Rattle.refusal.specs.declared.Refusal.TheVariants.{TokenNotPermitted, TooDeep}
 use Rattle.refusal.specs.Table as table
@@ -341,7 +340,7 @@ pub record Begun
 
 -- how many entries a table has
 abbrev pub entered : Table → ℕ
-entered t = array_vec_len t.nodes
+entered t = length t.nodes.items
 
 -- Only entries are added to the table, after those in use.
 pub record Grown (b a : Table) : Type 0 where

@@ -3,9 +3,9 @@ ghost use Rattle.std.specs.Prelude.{◌≡◌, Decides};
 ghost use Rattle.grammar.specs.Parsing.{Exceeding, Pushed, Kept, FieldKept, RuleKept, MarkKept};
 
 use crate::body::Body;
+use crate::copy_vec::CopyVec;
 use crate::line::Head;
 use crate::table::{FieldLine, MarkLine, Node, RuleLine, Table};
-use arrayvec::ArrayVec;
 
 impl Body {
     // Whether a line with so many parameters and this formula exceeds a limit.
@@ -59,12 +59,10 @@ impl Table {
         if !self.admit(first, exceeds) {
             return;
         }
-        let mut params = ArrayVec::from(head.params.items);
-        params.truncate(head.params.count);
         self.rules.push(RuleLine {
             first,
             name: head.name,
-            params,
+            params: CopyVec::front(head.params.items, head.params.count),
             start: body.start as u8,
             body: body.part.body,
         });

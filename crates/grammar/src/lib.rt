@@ -2,6 +2,7 @@
 #![tactic(auto)]
 
 mod body;
+pub mod copy_vec;
 mod cursor;
 pub mod few;
 mod fill;

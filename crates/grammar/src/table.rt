@@ -4,8 +4,8 @@
 ghost use Rattle.std.specs.Prelude.{◌≡◌, ℕ, List, [], None};
 ghost use Rattle.grammar.specs.Tables.{LinesAbove, blank_node};
 
+use crate::copy_vec::CopyVec;
 use crate::few::Few;
-use arrayvec::ArrayVec;
 use formula::{Comparison, Join};
 
 // A name: the place of its first byte in the text, and how many bytes it has.
@@ -55,11 +55,11 @@ pub struct FieldLine {
 }
 
 // A rule line, with the place of its first word. Its formula is all the entries from `start` to `body`.
-#[derive(Clone, PartialEq, Eq, Debug, Default, Drop)]
+#[derive(Clone, Copy, PartialEq, Eq, Debug, Default)]
 pub struct RuleLine {
     pub first: usize,
     pub name: Word,
-    pub params: ArrayVec<Word, 4>,
+    pub params: CopyVec<Word, 4>,
     pub start: u8,
     pub body: u8,
 }
@@ -73,12 +73,12 @@ pub struct MarkLine {
 }
 
 // The lines of a sheet, up to the first that passes a count limit.
-#[derive(Clone, PartialEq, Eq, Debug, Default, Drop)]
+#[derive(Clone, Copy, PartialEq, Eq, Debug, Default)]
 pub struct Table {
-    pub fields: ArrayVec<FieldLine, 8>,
-    pub rules: ArrayVec<RuleLine, 16>,
+    pub fields: CopyVec<FieldLine, 8>,
+    pub rules: CopyVec<RuleLine, 16>,
     pub mark: MarkLine,
-    pub nodes: ArrayVec<Node, 256>,
+    pub nodes: CopyVec<Node, 256>,
     // the place of the first word of the first line that passes a limit: from it on nothing is kept
     pub over: Option<usize>,
 }

@@ -300,7 +300,7 @@ NamesSettled s own = NamesSettledWith s.text.now s.fields.now s.rules.now own s.
 -- a rule line that stands for none
 abbrev pub no_rule_line : RuleLine
 no_rule_line =
-    record { first = 0; name = record { place = 0; length = 0 }; params = record { items = [] }; start = 0; body = 0 }
+    record { first = 0; name = record { place = 0; length = 0 }; params = record { items = []; spare = [] }; start = 0; body = 0 }
 
 -- the rule line of that number
 abbrev pub rule_at : List RuleLine → ℕ → RuleLine

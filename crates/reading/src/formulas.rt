@@ -14,15 +14,15 @@ use sheet::table::Sheet;
 // contract, which says by it how many parameters there are.
 pub(crate) fn read(
     sheet: &Sheet,
-    numbers: Numbers,
+    numbers: &Numbers<'_>,
     line: usize,
     node: usize,
     fuel: &mut u8,
 ) -> Option<bool>
     requires within { Within (length sheet.now.rules.items) (lines_in sheet.now) line node }
-    requires fields { length numbers.mark.now ≡ length sheet.now.ranges.items }
-    requires params { length numbers.args.now ≡ (line_at (lines_in sheet.now) line).params }
-    ensures read { Read sheet.now numbers.entry.mark.now numbers.entry.args.now node fuel.old result fuel.new }
+    requires fields { length numbers.now.mark.now ≡ length sheet.now.ranges.items }
+    requires params { length numbers.now.args.now ≡ (line_at (lines_in sheet.now) line).params }
+    ensures read { Read sheet.now numbers.now.mark.now numbers.now.args.now node fuel.old result fuel.new }
     ensures falls { fuel.new ≤ fuel.old }
 {
     match sheet.nodes[node] {
@@ -36,7 +36,7 @@ pub(crate) fn read(
             let body = usize::from(sheet.rules[rule].body);
             let mark = numbers.mark;
             let args = &passed[..count];
-            read(sheet, Numbers { mark, args }, rule, body, fuel)
+            read(sheet, &Numbers { mark, args }, rule, body, fuel)
         }
         Node::Not(part) => Some(!read(sheet, numbers, line, usize::from(part), fuel)?),
         Node::Pick(_, part) => read(sheet, numbers, line, usize::from(part), fuel),

@@ -60,7 +60,7 @@ fn read_mark(sheet: &Sheet, mark: &[u16], fuel: u8) -> Reading
     let line = sheet.rules.len();
     let body = usize::from(sheet.mark.body);
     let numbers = Numbers { mark, args: &[] };
-    let result = formulas::read(sheet, numbers, line, body, &mut left);
+    let result = formulas::read(sheet, &numbers, line, body, &mut left);
     Reading {
         verdict: Verdict::from(result),
         calls: fuel - left,

@@ -90,9 +90,15 @@ module _ (w : ℕ) (S : Marks) (a : Argument) (s : Comparison) (b : Argument) (z
         kept_by S P z f s n r sh (took_none (at_most_one (λ u v. known_not S b n p v))) h
         (subst (λ c. passing S s c b ≡ kept S f s n) (sym q) ((comparings S s).left_field f b n p))
 
+-- settling the left leaves at most one unknown field, where the right is one
+leaves_settled :
+    {S P : Marks} {a b : Argument} {t : Trace} {v : ℕ} → Unknown S b → Settles S a t P v → LeavesOne S a b t P
+leaves_settled q number = at_most_one (λ u v. u)
+leaves_settled {S = S} {a = a} {v = v} q (known V) = at_most_one (λ u w. known_not S a v V u)
+leaves_settled {S = S} q (chosen {f = f} {vs = vs} k V n l) = left_first (vs, V, n) q (chosen k V n l)
+
 -- of two unknown fields the left is settled
-module _ (w : ℕ) (S : Marks) (z : Way) (a : Held) (s : Comparison) (b : Argument)
-    (p : Unknown S (argument_of a)) (q : Unknown S b) where
+module _ (w : ℕ) (S : Marks) (z : Way) (a : Held) (s : Comparison) (b : Argument) (q : Unknown S b) where
   pub settled_kept :
       (Q P : Marks) (y : Way) (f v : ℕ) (s' : Comparison) (r : Result Unit Stop)
       → MarksOf w P
@@ -103,7 +109,7 @@ module _ (w : ℕ) (S : Marks) (z : Way) (a : Held) (s : Comparison) (b : Argume
       → Related w S (argument_of a) s b z r P y
   settled_kept Q P y f v s' r sh k is e h =
       let known = settled_known k.took.does in
-      kept_by w S (argument_of a) s b z Q P y f s' v r sh (took_map (λ t m. left_first p q m) k.took) h
+      kept_by w S (argument_of a) s b z Q P y f s' v r sh (took_map (λ t m. leaves_settled q m) k.took) h
       (subst (λ c. passing Q s (argument_of a) c ≡ kept Q f s' v) (sym is)
       (subst (λ c. passing Q s (argument_of a) (the_field f) ≡ kept Q f c v) (sym e)
       ((comparings Q s).right_field (argument_of a) f v known)))
@@ -112,7 +118,7 @@ module _ (w : ℕ) (S : Marks) (z : Way) (a : Held) (s : Comparison) (b : Argume
       (i : Stop) (P : Marks) (y : Way) → Settled w S a z (Err i) P y
       → Related w S (argument_of a) s b z (Err i) P y
   settled_halt i P y h = subst (λ k. Related w S (argument_of a) s b z (Err k) P y) (sym h.is)
-      (halt_map (λ t m. (m.0, left_first p q m.2)) h.at)
+      (halt_map (λ t m. (m.0, leaves_settled q m.2)) h.at)
 
   pub settle_fits : Fits z (LeavingOne S (argument_of a) b) → Fits z (Settling S (argument_of a))
-  settle_fits h = record { room = λ t m. h.room t (m.0, left_first p q m.2) }
+  settle_fits h = record { room = λ t m. h.room t (m.0, leaves_settled q m.2) }

@@ -3,7 +3,8 @@ ghost use Rattle.std.specs.Prelude.{◌≡◌, ℕ, ◌<◌, true};
 ghost use Rattle.marks.specs.Counted.{some};
 ghost use Rattle.sheet.specs.Table.{term_of};
 ghost use Rattle.run.specs.Frames.{Okay, argument_of, arguments_of, FrameOkay, TermOkay};
-ghost use Rattle.run.specs.Ways.{way_of, SameTrail, Fits};
+ghost use Rattle.meaning.specs.Matching.{the_number};
+ghost use Rattle.run.specs.Ways.{Way, way_of, SameTrail, Fits};
 ghost use Rattle.run.specs.Settling.{Narrows};
 ghost use Rattle.run.specs.Comparing.{LeavingOne, Narrowed, Related, Compared, Comparing};
 
@@ -37,7 +38,35 @@ fn narrow<S: Store>(store: &mut S, field: usize, sign: Comparison, number: u16) 
     alive(store)
 }
 
-// A comparison of what its terms come to. Of two unknown fields the left is settled; the other is kept by the sign.
+// A comparison whose left side is a number.
+fn relate_number<S: Store>(
+    store: &mut S,
+    left: u16,
+    sign: Comparison,
+    right: Argument,
+) -> Result<(), Stop>
+    requires small { left < 1024 }
+    requires right { Okay (S.width store.old) right }
+    requires some { some (S.width store.old) (S.current store.old) ≡ true }
+    ensures same { Narrows S.width S.starting S.current store.old store.new }
+    ensures left { (z : Way) → Related (S.width store.old) (S.current store.old) (the_number left) sign
+        (argument_of right) z result (S.current store.new) z }
+{
+    match right {
+        Argument::Field(field) => narrow(store, usize::from(field), sign.mirrored(), left),
+        Argument::Number(right) => {
+            if sign.holds(left, right) {
+                Ok(())
+            } else {
+                Err(Stop::DeadEnd)
+            }
+        }
+    }
+}
+
+// A comparison of what its terms come to. Of two unknown fields the left is settled; the other is kept by the sign. The
+// store is asked for no number that the comparison does without: a field on the left is kept by a right side that is
+// known, whether it is known itself or not, and settling makes no choice where it is.
 fn relate<S: Store, G: Guide>(
     store: &mut S,
     sides: Relation<Argument>,
@@ -55,17 +84,13 @@ fn relate<S: Store, G: Guide>(
         (way_of G.ahead trail.new) }
 {
     let sign = sides.sign;
-    match (known(store, sides.left), known(store, sides.right)) {
-        (Ok(left), Ok(right)) => {
-            if sign.holds(left, right) {
-                Ok(())
-            } else {
-                Err(Stop::DeadEnd)
-            }
-        }
-        (Ok(left), Err(right)) => narrow(store, right.field, sign.mirrored(), left),
-        (Err(left), Ok(right)) => narrow(store, left.field, sign, right),
-        (Err(_), Err(right)) => {
+    let field = match sides.left {
+        Argument::Number(left) => return relate_number(store, left, sign, sides.right),
+        Argument::Field(field) => usize::from(field),
+    };
+    match known(store, sides.right) {
+        Ok(right) => narrow(store, field, sign, right),
+        Err(right) => {
             let left = settle(store, sides.left, trail)?;
             narrow(store, right.field, sign.mirrored(), left)
         }

@@ -12,7 +12,7 @@ pub(crate) enum Stop {
 }
 
 // A dead end where the store has no mark left. That it has some, which contracts ask, is no fact of a store or a run:
-// after a dead end it has none.
+// after a dead end it may have none.
 pub(crate) fn alive<S: Store>(store: &S) -> Result<(), Stop>
     ensures { Lives (S.width store.now) (S.current store.now) result }
 {

@@ -9,7 +9,7 @@ use crate::stop::Stop;
 // The two trace lists, how many entries of them are written, and what tells the picks. The lists are the caller's,
 // with places counted by hand, since a run allocates nothing. No `PartialEq`: entries past that place mean nothing.
 // The store stays outside, and `Narrows` and `SameTrail` are two clauses: a clause of both would name eight things and
-// say no more, and a struct of both could not keep that a mark is left, since after a dead end there is none.
+// say no more, and a struct of both could not keep that a mark is left, since after a dead end there may be none.
 #[derive(Debug, Drop)]
 pub(crate) struct Trail<'a, G> {
     pub(crate) picks: &'a mut [u16],

@@ -4,6 +4,8 @@
 #[cfg(test)]
 mod line_trials;
 #[cfg(test)]
+mod number_trials;
+#[cfg(test)]
 mod sign_trials;
 #[cfg(test)]
 mod source_trials;

@@ -1,6 +1,7 @@
 // Stores asked directly.
 use crate::sheets::{REGISTERED, spelt};
 use formula::Comparison;
+use refusal::Refusal;
 use register::RegisterStore;
 use std::test::Fail;
 use store::Store;
@@ -12,6 +13,8 @@ fn open_rows(rt: HostRuntime) -> Result<(), Fail> {
     let mut store = OpenStore::new(&spelt(REGISTERED)?);
     assert!(rt; store.fields() == 2 && store.count(0) == 1024 && store.count(2) == 0);
     assert!(rt; store.value(0, 1023) == Some(1023) && store.value(0, 1024).is_none());
+    assert!(rt; store.keep(2, Comparison::Equal, 0) == Err(Refusal::Outside));
+    assert!(rt; store.keep(0, Comparison::Equal, 1024) == Err(Refusal::Outside));
     assert!(rt; store.keep(1, Comparison::Less, 0).is_ok());
     assert!(rt; store.is_empty() && store.count(0) == 0);
     store.restart();
@@ -34,5 +37,10 @@ fn withheld_pairs(rt: HostRuntime) -> Result<(), Fail> {
     let mut layer = Withheld::new(RegisterStore::new(&spelt(REGISTERED)?, &rows));
     assert!(rt; layer.withhold(1, 5).is_ok());
     assert!(rt; layer.count(0) == 1 && layer.value(0, 0) == Some(1));
+    for _ in 1..32 {
+        assert!(rt; layer.withhold(1, 5).is_ok());
+    }
+    assert!(rt; layer.withhold(1, 5) == Err(Refusal::PairsFull));
+    assert!(rt; layer.withhold(2, 5) == Err(Refusal::Outside));
     Ok(())
 }

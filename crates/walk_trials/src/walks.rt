@@ -114,7 +114,14 @@ fn lists_for_the_most_fuel(rt: HostRuntime) -> Result<(), Fail> {
         frames: &mut frames,
         mark: &mut mark,
     };
+    let differ = walk.next(&sheet, &mut OpenStore::new(&spelt(ODD)?), &mut lists);
+    assert!(rt; differ == Err(Refusal::FieldsDiffer));
     let enough = walk.next(&sheet, &mut store, &mut lists);
     assert!(rt; enough == Ok(Answer::Mark) && mark == [2, 0]);
+    assert!(rt; walk.tally().issued == 1);
+    let Err(kept) = walk.close() else {
+        return Err(Fail::new("closed before its end"));
+    };
+    assert!(rt; kept.refusal == Refusal::NotFinished && kept.walk.tally().issued == 1);
     Ok(())
 }

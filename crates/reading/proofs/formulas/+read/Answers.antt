@@ -86,7 +86,7 @@ returns-in_ok-fuel-in-Call-clause-read t c =
     c.from-body.ensures ∙ ap₂ (λ ls i. (line_at ls i).body) c.deref.ensures.0 c.from-rule.ensures in
     read_called c.args.line c.requires.within c.of_terms-passed.result c.in-Call.is
     c.in_ok-fuel-in-Call.ensures c.of_terms-passed.ensures
-    (subst₂ (λ n i. Read c.args.sheet.now c.args.numbers.mark.now (take n c.of_terms-passed.result) i
+    (subst₂ (λ n i. Read c.args.sheet.now c.args.numbers.now.mark.now (take n c.of_terms-passed.result) i
     c.in_ok-fuel-in-Call.field-0 c.read.result c.read.new.fuel) c.from-count.ensures body c.read.ensures.read)
 
 -- `not`

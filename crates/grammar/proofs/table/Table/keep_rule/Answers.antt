@@ -20,8 +20,8 @@ pub returns-clause-lines : goal.returns-clause-lines
 returns-clause-lines c =
     λ text fs rs all f h le few body.
     rule_kept text c.args.self.now fs rs c.args.body.start le c.args.first c.args.head
-    c.args.body.part all f few body c.admit.new.self c.truncate.new.self c.push.new.self
-    (c.truncate.ensures.items ∙ ap (take c.args.head.params.count) c.from-params.ensures.0)
+    c.args.body.part all f few body c.admit.new.self c.front.result c.push.new.self
+    c.front.ensures
     c.push.ensures.items
     (λ z. elim c.if-is_full.branch [
       | then-is_full w ↦ absurd (not_true (sym z ∙ w.exceeds-is ∙ w.if-is_full.true))
