@@ -36,6 +36,9 @@ same_word (a ∷ v) (b ∷ w) =
 pub both : {P Q : Type 0} → Dec P → Dec Q → Dec (P × Q)
 both d e = ⊎_elim (λ p. ⊎_elim (λ q. inl (p, q)) (λ q. inr (λ x. q x.1)) e) (λ p. inr (λ x. p x.0)) d
 
+pub either : {P Q : Type 0} → Dec P → Dec Q → Dec (P ⊎ Q)
+either d e = ⊎_elim (λ p. inl (inl p)) (λ p. ⊎_elim (λ q. inl (inr q)) (λ q. inr (λ x. ⊎_elim p q x)) e) d
+
 pub below : (a b : ℕ) → Dec (a < b)
 below a b = ⊎_elim (λ h. inl h) (λ h. inr (λ k. omega arith)) (order a b)
 
@@ -58,6 +61,9 @@ le_trans p n q m r k a b =
     (λ x. ⊎_elim (λ y. inl (omega arith)) (λ y. inl (omega arith)) b)
     (λ x. ⊎_elim (λ y. inl (omega arith)) (λ y. inr (omega arith, omega arith)) b)
     a
+
+pub search_none : Search (λ n p. ⊥)
+search_none = inl (λ n p h. h)
 
 pub search_dec : {P : Type 0} → Dec P → (m q : ℕ) → Search (λ n p. P × (n ≡ m) × (p ≡ q))
 search_dec d m q =
