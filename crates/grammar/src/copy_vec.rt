@@ -1,17 +1,20 @@
-// A vector of fixed capacity that is copied as a value, as `arrayvec` has none. The places past its elements are
-// filled, and mean nothing.
-ghost use Rattle.std.specs.Prelude.{◌≡◌, ◌+◌, ◌<◌, ◌≤◌, ◌==◌, [], ◌∷◌, ◌++◌, length, take};
+// A vector of fixed capacity that is copied as a value, which those of `arrayvec` are not. The places past its elements
+// are filled, and mean nothing. Its fields are open, as those of a table are: whoever fills them proves that the count
+// is within the places.
+ghost use Rattle.std.specs.Prelude.{◌≡◌, ◌+◌, ◌^◌, ◌<◌, ◌≤◌, ◌==◌, [], ◌∷◌, ◌++◌, length, take};
 ghost use Rattle.std.specs.Cmp.{on_equiv, on_per};
+ghost use Rattle.std.specs.Iterator.Runs.{EveryRun, ItemsMapTo};
+ghost use Rattle.std.specs.Slice.Iter.{iter_rest, iter_steps};
 ghost use Rattle.std.specs.Cmp.Lexicographic.{pointwise, lists_per, lists_equiv};
 
-use std::fmt;
 use std::marker::Model;
 use std::ops::DerefSlice;
+use std::{fmt, slice};
 
 #[derive(Clone, Copy)]
 pub struct CopyVec<T, const CAP: usize> {
-    places: [T; CAP],
-    count: usize,
+    pub places: [T; CAP],
+    pub count: usize,
 }
 
 impl<T, const CAP: usize> Model for CopyVec<T, CAP> {
@@ -90,6 +93,19 @@ impl<T, const CAP: usize> DerefSlice for CopyVec<T, CAP> {
 
     fn deref(&self) -> &[T] {
         &self.places[..self.count]
+    }
+}
+
+impl<'a, T, const CAP: usize> IntoIterator for &'a CopyVec<T, CAP> {
+    type Item = &'a T;
+
+    type IntoIter = slice::Iter<'a, T>;
+
+    ghost into_iter_gives = { λ v it. (iter_rest it ≡ v.now.items) × (length (iter_rest it) < 2 ^ 64)
+        × EveryRun (iter_steps {A = T}) (λ p. ItemsMapTo p (λ x. x.now) (iter_rest p.from)) };
+
+    fn into_iter(self) -> slice::Iter<'a, T> {
+        self[..].iter()
     }
 }
 

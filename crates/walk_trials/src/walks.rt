@@ -86,6 +86,16 @@ fn whole_walks(rt: HostRuntime) -> Result<(), Fail> {
 }
 
 #[test]
+fn store_after_a_dead_end(rt: HostRuntime) -> Result<(), Fail> {
+    let sheet = spelt(b"field a 0 9 ; mark a = 3 and a = 4 ;")?;
+    let mut store = OpenStore::new(&sheet);
+    let told = walked(rt.alloc(), &sheet, &mut store, 2)?;
+    assert!(rt; told.as_slice() == [(Answer::DeadEnd, 0, 0)].as_slice());
+    assert!(rt; store.is_empty() && store.count(0) == 0);
+    Ok(())
+}
+
+#[test]
 fn lists_for_the_most_fuel(rt: HostRuntime) -> Result<(), Fail> {
     let sheet = spelt(SHELVES)?;
     let mut store = OpenStore::new(&sheet);
